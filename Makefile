@@ -1,0 +1,11 @@
+# The two commands of README.md.
+.PHONY: run test
+
+# Proves and builds what there is to run, and runs it.
+run:
+	rt check word_vectors
+	target/bin/word_vectors < crates/word_vectors/stdin
+
+# The gate.
+test:
+	.ci/run

@@ -1,0 +1,121 @@
+// Words of document 01, built from their fields: what goes into the marked table and what comes out, info words and records.
+ghost use Prim.Native.Nat.{_<_, _^_};
+use crate::print;
+use words::entries::Entry;
+use words::hints;
+use words::infos::Info;
+use words::operations;
+use words::records::Record;
+use words::states;
+use words::statuses;
+
+// An entry that asks for one page.
+fn asking(gpa: u64, operation: u64) -> u64
+    requires { ⌜ (gpa < 2 ^ 40) × (operation < 2 ^ 2) ⌝ }
+{
+    words::entries::entry_word(Entry {
+        level: 0,
+        pending: false,
+        state: 0,
+        reserved5: 0,
+        l2_map: 0,
+        mig_type: 0,
+        gpa,
+        operation,
+        reserved54: 0,
+        status: 0,
+        reserved61: 0,
+    })
+}
+
+// An entry as it comes back.
+fn answered(w: u64, operation: u64, pending: bool, status: u64) -> u64
+    requires { ⌜ (operation < 2 ^ 2) × (status < 2 ^ 5) ⌝ }
+{
+    let asked = words::entries::set_operation(w, operation);
+    let done = words::entries::set_pending(asked, pending);
+    words::entries::set_status(done, status)
+}
+
+fn line(name: &[u8], before: u64, after: u64) {
+    print::text(name);
+    print::word(before);
+    print::word(after);
+    print::text(b"\n");
+}
+
+fn failed(name: &[u8], w: u64, status: u64)
+    requires { ⌜ status < 2 ^ 5 ⌝ }
+{
+    line(name, w, answered(w, operations::NOP, false, status));
+}
+
+fn done(name: &[u8], w: u64, operation: u64, pending: bool)
+    requires { ⌜ operation < 2 ^ 2 ⌝ }
+{
+    line(name, w, answered(w, operation, pending, statuses::SUCCESS));
+}
+
+fn print_marked() {
+    let w = asking(5, operations::MIGRATE);
+    done(b"marked 1", w, operations::MIGRATE, false);
+    failed(b"marked 2", w, statuses::TLB_TRACKING_NOT_DONE);
+    failed(b"marked 3", w, statuses::PAGE_DIRTY);
+    done(b"marked 4", w, operations::MIGRATE, true);
+    done(b"marked 5", w, operations::REMIGRATE, false);
+    done(b"marked 6", w, operations::CANCEL, false);
+    failed(b"marked 7", w, statuses::MIGRATED_IN_CURRENT_EPOCH);
+    // A page number typed where a byte address belongs: 5 is LEVEL 1 with PENDING.
+    let typed = words::entries::set_pending(words::entries::set_level(0, 1), true);
+    failed(b"marked 8", typed, statuses::GPA_LIST_ENTRY_INVALID);
+    failed(
+        b"marked 9",
+        asking(20480, operations::MIGRATE),
+        statuses::SEPT_WALK_FAILED,
+    );
+    failed(b"marked 10", asking(5, operations::NOP), statuses::SKIPPED);
+    let scanned = words::entries::set_state(w, hints::EXPORTED_MODIFIED);
+    line(b"scanned", w, scanned);
+}
+
+fn info(name: &[u8], first: u64, last: u64)
+    requires { ⌜ (first < 2 ^ 9) × (last < 2 ^ 9) ⌝ }
+{
+    let w = words::infos::info_word(Info {
+        format: 0,
+        first,
+        hpa: 0,
+        zero52: 0,
+        last,
+    });
+    print::text(name);
+    print::word(w);
+    print::text(b"\n");
+}
+
+fn record(name: &[u8], state: u8, stamp: u64, epoch: u64)
+    requires { ⌜ (stamp < 2 ^ 16) × (epoch < 2 ^ 16) ⌝ }
+{
+    let w = words::records::record_word(Record {
+        state,
+        dirty: false,
+        cached: false,
+        spare10: 0,
+        stamp,
+        epoch,
+        spare48: 0,
+    });
+    print::text(name);
+    print::word(w);
+    print::text(b"\n");
+}
+
+pub fn print_all() {
+    print_marked();
+    info(b"info of an empty list", 511, 0);
+    info(b"info of one entry", 0, 0);
+    info(b"info of 512 entries", 0, 511);
+    record(b"record blocked at TLB epoch 2", states::BLOCKED, 2, 0);
+    record(b"record with the largest stamp", states::MAPPED, 65535, 0);
+    record(b"record with the largest epoch", states::EXPORTED, 0, 65535);
+}

@@ -1,0 +1,6 @@
+pub mod Runs
+pub mod Words
+pub mod EntryLaws
+pub mod InfoLaws
+pub mod RecordLaws
+pub mod ClassLaws

@@ -1,0 +1,13 @@
+use lib.Dec.{lit<}
+use Rattle.words.specs.Info.{infoOf}
+use Rattle.words.proofs.InfoLaws.{info}
+use Rattle.words.proofs.Words.{set-code}
+use Rattle.words.proofs.infos.set_first.Statement.{statement}
+use Rattle.words.proofs.infos.set_first.Tie as tie
+
+returns : tie.Need-returns
+unfolding infoOf
+returns c = set-code info 1 (c .args .w) (lit< tt) (c .pre)
+
+pub set-first-spec : {M : Type 1} → statement M
+set-first-spec = tie.close (tie.spec returns)

@@ -1,0 +1,9 @@
+use Rattle.words.proofs.RecordLaws.{plain-code}
+use Rattle.words.proofs.records.is_plain.Statement.{statement}
+use Rattle.words.proofs.records.is_plain.Tie as tie
+
+returns : tie.Need-returns
+returns c = plain-code (c .args .w)
+
+pub is-plain-spec : {M : Type 1} → statement M
+is-plain-spec = tie.close (tie.spec returns)

@@ -1,0 +1,20 @@
+use mathlib.Core.Path.{ap, _∙_}
+use lib.Dec.{lit<}
+use borrow.Author.Needs.{needs}
+use Rattle.words.specs.Record.{recordOf, withCached}
+use Rattle.words.proofs.Runs.{bit-lt, flag-bit}
+use Rattle.words.proofs.RecordLaws.{wordZero}
+use Rattle.words.proofs.Words.{set-code}
+use Rattle.words.proofs.records.set_cached.Statement.{statement}
+use Rattle.words.proofs.records.set_cached.Tie as tie
+
+cast-result : tie.Need-cast-result
+cast-result c = search needs
+
+returns : tie.Need-returns
+unfolding recordOf
+returns c =
+    let b = c .args .v in set-code wordZero 2 (c .args .w) (lit< tt) (bit-lt b) ∙ ap (withCached (recordOf (c .args .w))) (flag-bit b)
+
+pub set-cached-spec : {M : Type 1} → statement M
+set-cached-spec = tie.close (tie.spec cast-result returns)
