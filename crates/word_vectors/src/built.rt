@@ -110,7 +110,7 @@ fn record(name: &[u8], state: u8, stamp: u64, epoch: u64)
     print::text(b"\n");
 }
 
-pub fn print_all() {
+pub(crate) fn print_all() {
     print_marked();
     info(b"info of an empty list", 511, 0);
     info(b"info of one entry", 0, 0);

@@ -3,24 +3,24 @@ use crate::print;
 use crate::shown;
 
 // What has been read of a line.
-pub struct Line {
-    // Numbers begun.
+pub(crate) struct Line {
+    // How many numbers have begun: the word, and the value.
     pub count: u64,
     // The last byte belonged to a number.
     pub within: bool,
     // Something is no number, too large, or one too many.
     pub broken: bool,
-    pub first: u64,
-    pub second: u64,
+    pub word: u64,
+    pub value: u64,
 }
 
-pub fn empty() -> Line {
+pub(crate) fn empty() -> Line {
     Line {
         count: 0,
         within: false,
         broken: false,
-        first: 0,
-        second: 0,
+        word: 0,
+        value: 0,
     }
 }
 
@@ -42,29 +42,28 @@ fn broken(l: Line) -> Line {
 
 // A number begins, if the line has none or one.
 fn begun(l: Line) -> Line {
-    let mut next = l;
     if l.within {
-        return next;
+        return l;
     }
-    if l.count < 2 {
-        next.within = true;
-        next.count = l.count + 1;
-        next
-    } else {
-        broken(l)
+    if 2 <= l.count {
+        return broken(l);
     }
+    let mut next = l;
+    next.within = true;
+    next.count = l.count + 1;
+    next
 }
 
 fn with_digit(l: Line, d: u64) -> Line {
     let mut next = begun(l);
     if next.count < 2 {
-        if next.first < 0x1000_0000_0000_0000 {
-            next.first = (next.first << 4) | d;
+        if next.word < 0x1000_0000_0000_0000 {
+            next.word = (next.word << 4) | d;
             return next;
         }
     } else {
-        if next.second < 0x1000_0000_0000_0000 {
-            next.second = (next.second << 4) | d;
+        if next.value < 0x1000_0000_0000_0000 {
+            next.value = (next.value << 4) | d;
             return next;
         }
     }
@@ -72,25 +71,25 @@ fn with_digit(l: Line, d: u64) -> Line {
 }
 
 // The end of a line.
-pub fn finish(l: Line) {
+pub(crate) fn finish(l: Line) {
     if l.broken {
         print::text(b"unreadable\n");
         return;
     }
     if 0 < l.count {
-        shown::apart(l.first);
+        shown::apart(l.word);
     }
     if 1 < l.count {
-        shown::with_each(l.first, l.second);
+        shown::with_each(l.word, l.value);
     }
 }
 
 // The number that is being read is 0 so far, so that an x may follow, as in 0x5000.
 fn is_zero(l: Line) -> bool {
     if l.count < 2 {
-        l.first == 0
+        l.word == 0
     } else {
-        l.second == 0
+        l.value == 0
     }
 }
 
@@ -123,7 +122,7 @@ fn with_byte(l: Line, b: u8) -> Line {
     }
 }
 
-pub fn read(l: Line, s: &[u8]) -> Line {
+pub(crate) fn read(l: Line, s: &[u8]) -> Line {
     let mut line = l;
     let mut i = 0;
     while i < s.len() {

@@ -92,7 +92,7 @@ fn hint_numbers() -> [u64; 4]
     ]
 }
 
-pub fn print_all() {
+pub(crate) fn print_all() {
     print::list(b"codes", &code_numbers());
     print::list(b"\nstates", &state_numbers());
     print::list(b"\nstatuses", &status_numbers());

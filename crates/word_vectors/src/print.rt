@@ -3,24 +3,24 @@ ghost use Prim.Native.Nat.{_≤_};
 ghost use lib.ListN.{length};
 use libc::STDOUT_FILENO;
 
-pub fn text(s: &[u8]) {
+pub(crate) fn text(s: &[u8]) {
     io::write_all(STDOUT_FILENO, s);
 }
 
 // A space and a number.
-pub fn decimal(n: u64) {
+pub(crate) fn decimal(n: u64) {
     text(b" ");
     io::print_decimal(STDOUT_FILENO, n);
 }
 
 // A space and a word.
-pub fn word(w: u64) {
+pub(crate) fn word(w: u64) {
     text(b" ");
     io::print_hex(STDOUT_FILENO, w, 16);
 }
 
 // A name, and numbers after it.
-pub fn list(name: &[u8], ns: &[u64]) {
+pub(crate) fn list(name: &[u8], ns: &[u64]) {
     text(name);
     let mut i = 0;
     while i < ns.len() {
@@ -55,7 +55,7 @@ fn name_end(names: &[u8], from: usize) -> usize
 }
 
 // Each number with its name. The names stand in one text, with a space between.
-pub fn numbers(names: &[u8], ns: &[u64], as_words: bool) {
+pub(crate) fn numbers(names: &[u8], ns: &[u64], as_words: bool) {
     let mut from = 0;
     let mut i = 0;
     while i < ns.len() {

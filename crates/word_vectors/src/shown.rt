@@ -71,7 +71,7 @@ fn class(w: u64) {
     }
 }
 
-pub fn apart(w: u64) {
+pub(crate) fn apart(w: u64) {
     print::text(b"word");
     print::word(w);
     print::text(b"\n  entry");
@@ -131,7 +131,7 @@ fn record_with(w: u64, v: u64) -> [u64; 5] {
     ]
 }
 
-pub fn with_each(w: u64, v: u64) {
+pub(crate) fn with_each(w: u64, v: u64) {
     print::text(b"  entry with");
     print::numbers(
         b"level pending state l2_map mig_type gpa operation status",
