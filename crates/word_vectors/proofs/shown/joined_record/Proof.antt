@@ -1,3 +1,4 @@
+-- What was read is written: the law of `words`.
 use mathlib.Core.Path.{ap, _∙_}
 use borrow.Author.Needs.{needs}
 use Rattle.words.specs.Record.{recordWord}

@@ -1,3 +1,4 @@
+-- Each run is shifted to its place and joined to those below it. `start` is the entry of the function, before its fields are read.
 use borrow.Author.Needs.{needs}
 use Rattle.words.specs.Entry.{entryOf}
 use Rattle.words.proofs.EntryLaws.{entry}

@@ -1,3 +1,4 @@
+-- The field is the lowest run of an entry.
 use Rattle.words.specs.Entry.{entryOf}
 use Rattle.words.proofs.EntryLaws.{entry}
 use Rattle.words.proofs.Words.{set-low-code}

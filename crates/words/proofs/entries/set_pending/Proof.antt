@@ -1,3 +1,4 @@
+-- The field is run 1 of an entry, counted from 0, and a flag is what its bit says.
 use mathlib.Core.Path.{ap, _∙_}
 use lib.Dec.{lit<}
 use borrow.Author.Needs.{needs}

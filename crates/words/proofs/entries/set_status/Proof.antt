@@ -1,3 +1,4 @@
+-- The field is run 9 of an entry, counted from 0.
 use lib.Dec.{lit<}
 use Rattle.words.specs.Entry.{entryOf}
 use Rattle.words.proofs.EntryLaws.{entry}

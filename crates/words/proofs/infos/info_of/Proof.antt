@@ -1,3 +1,4 @@
+-- Each run is what its shift and mask read.
 use Prim.Native.Nat.{ℕ}
 use Rattle.words.specs.Info.{infoOf}
 use Rattle.words.proofs.Runs.{masked, lowest}

@@ -1,3 +1,4 @@
+-- Each run is shifted to its place and joined to those below it. `start` is the entry of the function, before its fields are read.
 use Rattle.words.specs.Info.{infoOf}
 use Rattle.words.proofs.InfoLaws.{info}
 use Rattle.words.proofs.Words.{write-code}

@@ -1,3 +1,4 @@
+-- The field is run 1 of the info word, counted from 0.
 use lib.Dec.{lit<}
 use Rattle.words.specs.Info.{infoOf}
 use Rattle.words.proofs.InfoLaws.{info}

@@ -1,3 +1,4 @@
+-- The field is the lowest run of the info word.
 use Rattle.words.specs.Info.{infoOf}
 use Rattle.words.proofs.InfoLaws.{info}
 use Rattle.words.proofs.Words.{set-low-code}

@@ -1,3 +1,4 @@
+-- The mask is that of the two spare runs.
 use Rattle.words.proofs.RecordLaws.{plain-code}
 use Rattle.words.proofs.records.is_plain.Statement.{statement}
 use Rattle.words.proofs.records.is_plain.Tie as tie

@@ -1,3 +1,4 @@
+-- Each run is what its shift and mask read.
 use Prim.Native.Nat.{ℕ}
 use lib.Bits.{mask-lt}
 use Rattle.words.specs.Record.{recordOf}

@@ -1,3 +1,4 @@
+-- The field is run 4 of a record, counted from 0.
 use lib.Dec.{lit<}
 use Rattle.words.specs.Record.{recordOf}
 use Rattle.words.proofs.RecordLaws.{wordZero}

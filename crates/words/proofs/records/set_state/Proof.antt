@@ -1,3 +1,4 @@
+-- The field is the lowest run of a record.
 use borrow.Author.Needs.{needs}
 use Rattle.words.specs.Record.{recordOf}
 use Rattle.words.proofs.RecordLaws.{wordZero}
