@@ -1,11 +1,12 @@
 // Words of document 01, built from their fields: what goes into the marked table and what comes out, info words and records.
 ghost use Prim.Native.Nat.{_<_, _^_};
 use crate::print;
+use words::entries;
 use words::entries::Entry;
 use words::hints;
 use words::infos::Info;
 use words::operations;
-use words::records::Record;
+use words::records;
 use words::states;
 use words::statuses;
 
@@ -13,7 +14,7 @@ use words::statuses;
 fn asking(gpa: u64, operation: u64) -> u64
     requires { ⌜ (gpa < 2 ^ 40) × (operation < 2 ^ 2) ⌝ }
 {
-    words::entries::entry_word(Entry {
+    entries::entry_word(Entry {
         level: 0,
         pending: false,
         state: 0,
@@ -28,20 +29,20 @@ fn asking(gpa: u64, operation: u64) -> u64
     })
 }
 
-// An entry as it comes back.
+// An entry as an export gives it back.
 fn answered(w: u64, operation: u64, pending: bool, status: u64) -> u64
     requires { ⌜ (operation < 2 ^ 2) × (status < 2 ^ 5) ⌝ }
 {
-    let asked = words::entries::set_operation(w, operation);
-    let done = words::entries::set_pending(asked, pending);
-    words::entries::set_status(done, status)
+    let cleared = entries::set_l2_map(entries::set_state(w, 0), 0);
+    let done = entries::set_pending(entries::set_operation(cleared, operation), pending);
+    entries::set_status(done, status)
 }
 
 fn line(name: &[u8], before: u64, after: u64) {
     print::text(name);
-    print::word(before);
-    print::word(after);
-    print::text(b"\n");
+    print::word(b"in", before);
+    print::word(b"out", after);
+    print::end();
 }
 
 fn failed(name: &[u8], w: u64, status: u64)
@@ -66,7 +67,7 @@ fn print_marked() {
     done(b"marked 6", w, operations::CANCEL, false);
     failed(b"marked 7", w, statuses::MIGRATED_IN_CURRENT_EPOCH);
     // A page number typed where a byte address belongs: 5 is LEVEL 1 with PENDING.
-    let typed = words::entries::set_pending(words::entries::set_level(0, 1), true);
+    let typed = entries::set_pending(entries::set_level(0, 1), true);
     failed(b"marked 8", typed, statuses::GPA_LIST_ENTRY_INVALID);
     failed(
         b"marked 9",
@@ -74,8 +75,14 @@ fn print_marked() {
         statuses::SEPT_WALK_FAILED,
     );
     failed(b"marked 10", asking(5, operations::NOP), statuses::SKIPPED);
-    let scanned = words::entries::set_state(w, hints::EXPORTED_MODIFIED);
-    line(b"scanned", w, scanned);
+}
+
+// What a scan lists for a page that is in EXPORTED with Dirty.
+fn print_scanned() {
+    let w = asking(5, operations::MIGRATE);
+    print::text(b"scanned");
+    print::word(b"out", entries::set_state(w, hints::EXPORTED_MODIFIED));
+    print::end();
 }
 
 fn info(name: &[u8], first: u64, last: u64)
@@ -88,34 +95,30 @@ fn info(name: &[u8], first: u64, last: u64)
         zero52: 0,
         last,
     });
-    print::text(name);
-    print::word(w);
-    print::text(b"\n");
+    print::text(b"info");
+    print::word(name, w);
+    print::end();
 }
 
 fn record(name: &[u8], state: u8, stamp: u64, epoch: u64)
     requires { ⌜ (stamp < 2 ^ 16) × (epoch < 2 ^ 16) ⌝ }
 {
-    let w = words::records::record_word(Record {
-        state,
-        dirty: false,
-        cached: false,
-        spare10: 0,
-        stamp,
+    let w = records::set_epoch(
+        records::set_stamp(records::set_state(0, state), stamp),
         epoch,
-        spare48: 0,
-    });
-    print::text(name);
-    print::word(w);
-    print::text(b"\n");
+    );
+    print::text(b"record");
+    print::word(name, w);
+    print::end();
 }
 
 pub(crate) fn print_all() {
     print_marked();
-    info(b"info of an empty list", 511, 0);
-    info(b"info of one entry", 0, 0);
-    info(b"info of 512 entries", 0, 511);
-    record(b"record blocked at TLB epoch 2", states::BLOCKED, 2, 0);
-    record(b"record with the largest stamp", states::MAPPED, 65535, 0);
-    record(b"record with the largest epoch", states::EXPORTED, 0, 65535);
+    print_scanned();
+    info(b"of an empty list", 511, 0);
+    info(b"of one entry", 0, 0);
+    info(b"of 512 entries", 0, 511);
+    record(b"blocked at TLB epoch 2", states::BLOCKED, 2, 0);
+    record(b"with the largest stamp", states::MAPPED, 65535, 0);
+    record(b"with the largest epoch", states::EXPORTED, 0, 65535);
 }

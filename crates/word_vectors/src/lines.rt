@@ -1,17 +1,17 @@
-// Standard input, a line at a time: a word in hexadecimal, taken apart; or a word and a number, to set the word's fields to.
+// Standard input, a line at a time: a word in hexadecimal digits, or two, the second to take fields from.
 use crate::print;
 use crate::shown;
 
 // What has been read of a line.
 pub(crate) struct Line {
-    // How many numbers have begun: the word, and the value.
+    // How many words have begun.
     pub count: u64,
-    // The last byte belonged to a number.
+    // The last byte belonged to a word.
     pub within: bool,
-    // Something is no number, too large, or one too many.
+    // Something is no word, or one too many.
     pub broken: bool,
-    pub word: u64,
-    pub value: u64,
+    pub first: u64,
+    pub second: u64,
 }
 
 pub(crate) fn empty() -> Line {
@@ -19,8 +19,8 @@ pub(crate) fn empty() -> Line {
         count: 0,
         within: false,
         broken: false,
-        word: 0,
-        value: 0,
+        first: 0,
+        second: 0,
     }
 }
 
@@ -40,7 +40,7 @@ fn broken(l: Line) -> Line {
     next
 }
 
-// A number begins, if the line has none or one.
+// A word begins, if the line has none or one.
 fn begun(l: Line) -> Line {
     if l.within {
         return l;
@@ -57,13 +57,13 @@ fn begun(l: Line) -> Line {
 fn with_digit(l: Line, d: u64) -> Line {
     let mut next = begun(l);
     if next.count < 2 {
-        if next.word < 0x1000_0000_0000_0000 {
-            next.word = (next.word << 4) | d;
+        if next.first < 0x1000_0000_0000_0000 {
+            next.first = (next.first << 4) | d;
             return next;
         }
     } else {
-        if next.value < 0x1000_0000_0000_0000 {
-            next.value = (next.value << 4) | d;
+        if next.second < 0x1000_0000_0000_0000 {
+            next.second = (next.second << 4) | d;
             return next;
         }
     }
@@ -77,29 +77,11 @@ pub(crate) fn finish(l: Line) {
         return;
     }
     if 0 < l.count {
-        shown::apart(l.word);
+        shown::apart(l.first);
     }
     if 1 < l.count {
-        shown::with_each(l.word, l.value);
+        shown::each_from(l.first, l.second);
     }
-}
-
-// The number that is being read is 0 so far, so that an x may follow, as in 0x5000.
-fn is_zero(l: Line) -> bool {
-    if l.count < 2 {
-        l.word == 0
-    } else {
-        l.value == 0
-    }
-}
-
-fn with_x(l: Line) -> Line {
-    if l.within {
-        if is_zero(l) {
-            return l;
-        }
-    }
-    broken(l)
 }
 
 fn with_byte(l: Line, b: u8) -> Line {
@@ -117,7 +99,6 @@ fn with_byte(l: Line, b: u8) -> Line {
             next.within = false;
             next
         }
-        b'x' => with_x(l),
         _ => broken(l),
     }
 }

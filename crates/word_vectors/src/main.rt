@@ -1,14 +1,12 @@
-// Prints the named numbers, words of document 01 built from their fields, and every word of standard input taken apart.
+// Prints words of document 01, built from their fields, and then every word of standard input, taken apart.
 mod built;
 mod lines;
-mod named;
 mod print;
 mod shown;
 
 use libc::STDIN_FILENO;
 
 fn main() {
-    named::print_all();
     built::print_all();
     let mut line = lines::empty();
     let mut space = io::large_buffer();

@@ -1,4 +1,4 @@
-// A word taken apart as each of the three kinds, joined again, and with each field set.
+// A word taken apart as each of the three kinds, joined again, and with each field taken from another word.
 ghost use mathlib.Core.Path.{_≡_};
 use crate::print;
 use words::classes::Class;
@@ -25,45 +25,38 @@ fn joined_record(w: u64) -> u64
     records::record_word(records::record_of(w))
 }
 
-fn entry_runs(w: u64) -> [u64; 11] {
+fn entry(w: u64) {
     let e = entries::entry_of(w);
-    [
-        e.level,
-        e.pending as u64,
-        e.state,
-        e.reserved5,
-        e.l2_map,
-        e.mig_type,
-        e.gpa,
-        e.operation,
-        e.reserved54,
-        e.status,
-        e.reserved61,
-    ]
+    print::text(b"  entry");
+    print::number(b"level", e.level);
+    print::flag(b"pending", e.pending);
+    print::number(b"state", e.state);
+    print::number(b"reserved5", e.reserved5);
+    print::number(b"l2_map", e.l2_map);
+    print::number(b"mig_type", e.mig_type);
+    print::number(b"gpa", e.gpa);
+    print::number(b"operation", e.operation);
+    print::number(b"reserved54", e.reserved54);
+    print::number(b"status", e.status);
+    print::number(b"reserved61", e.reserved61);
+    print::word(b"joined", joined_entry(w));
+    print::end();
 }
 
-fn info_runs(w: u64) -> [u64; 5] {
+fn info(w: u64) {
     let x = infos::info_of(w);
-    [x.format, x.first, x.hpa, x.zero52, x.last]
+    print::text(b"  info");
+    print::number(b"format", x.format);
+    print::number(b"first", x.first);
+    print::number(b"hpa", x.hpa);
+    print::number(b"zero52", x.zero52);
+    print::number(b"last", x.last);
+    print::word(b"joined", joined_info(w));
+    print::end();
 }
 
-fn record_runs(w: u64) -> [u64; 8] {
-    let p = records::record_of(w);
-    [
-        p.state as u64,
-        p.dirty as u64,
-        p.cached as u64,
-        p.spare10,
-        p.stamp,
-        p.epoch,
-        p.spare48,
-        records::is_plain(w) as u64,
-    ]
-}
-
-fn class(w: u64) {
-    let p = records::record_of(w);
-    match words::classes::class_of(p.state) {
+fn class(s: u8) {
+    match words::classes::class_of(s) {
         Class::Free => print::text(b" class free"),
         Class::NonLeaf => print::text(b" class non-leaf"),
         Class::Leaf => print::text(b" class leaf"),
@@ -71,76 +64,74 @@ fn class(w: u64) {
     }
 }
 
+fn record(w: u64) {
+    let p = records::record_of(w);
+    print::text(b"  record");
+    print::number(b"state", p.state as u64);
+    class(p.state);
+    print::flag(b"dirty", p.dirty);
+    print::flag(b"cached", p.cached);
+    print::number(b"spare10", p.spare10);
+    print::number(b"stamp", p.stamp);
+    print::number(b"epoch", p.epoch);
+    print::number(b"spare48", p.spare48);
+    print::flag(b"plain", records::is_plain(w));
+    print::word(b"joined", joined_record(w));
+    print::end();
+}
+
 pub(crate) fn apart(w: u64) {
-    print::text(b"word");
-    print::word(w);
-    print::text(b"\n  entry");
-    print::numbers(
-        b"level pending state reserved5 l2_map mig_type gpa operation reserved54 status reserved61",
-        &entry_runs(w),
-        false,
-    );
-    print::text(b" joined");
-    print::word(joined_entry(w));
-    print::text(b"\n  info");
-    print::numbers(b"format first hpa zero52 last", &info_runs(w), false);
-    print::text(b" joined");
-    print::word(joined_info(w));
-    print::text(b"\n  record");
-    print::numbers(
-        b"state dirty cached spare10 stamp epoch spare48 plain",
-        &record_runs(w),
-        false,
-    );
-    class(w);
-    print::text(b" joined");
-    print::word(joined_record(w));
-    print::text(b"\n");
+    print::text(b"taken apart:");
+    print::word(b"word", w);
+    print::end();
+    entry(w);
+    info(w);
+    record(w);
 }
 
-// The word with each field set to as much of v as it holds.
-fn entry_with(w: u64, v: u64) -> [u64; 8] {
-    [
-        entries::set_level(w, v % 4),
-        entries::set_pending(w, v % 2 == 1),
-        entries::set_state(w, v % 4),
-        entries::set_l2_map(w, v % 8),
-        entries::set_mig_type(w, v % 4),
-        entries::set_gpa(w, v % 1_099_511_627_776),
-        entries::set_operation(w, v % 4),
-        entries::set_status(w, v % 32),
-    ]
+// The word w with each of its fields in turn taken from v.
+fn status_from(w: u64, v: u64) -> u64 {
+    let e = entries::entry_of(v);
+    entries::set_status(w, e.status)
 }
 
-fn info_with(w: u64, v: u64) -> [u64; 4] {
-    [
-        infos::set_format(w, v % 8),
-        infos::set_first(w, v % 512),
-        infos::set_hpa(w, v % 1_099_511_627_776),
-        infos::set_last(w, v % 512),
-    ]
-}
-
-fn record_with(w: u64, v: u64) -> [u64; 5] {
-    [
-        records::set_state(w, (v % 256) as u8),
-        records::set_dirty(w, v % 2 == 1),
-        records::set_cached(w, v % 2 == 1),
-        records::set_stamp(w, v % 65536),
-        records::set_epoch(w, v % 65536),
-    ]
-}
-
-pub(crate) fn with_each(w: u64, v: u64) {
+fn entry_from(w: u64, v: u64) {
+    let e = entries::entry_of(v);
     print::text(b"  entry with");
-    print::numbers(
-        b"level pending state l2_map mig_type gpa operation status",
-        &entry_with(w, v),
-        true,
-    );
-    print::text(b"\n  info with");
-    print::numbers(b"format first hpa last", &info_with(w, v), true);
-    print::text(b"\n  record with");
-    print::numbers(b"state dirty cached stamp epoch", &record_with(w, v), true);
-    print::text(b"\n");
+    print::word(b"level", entries::set_level(w, e.level));
+    print::word(b"pending", entries::set_pending(w, e.pending));
+    print::word(b"state", entries::set_state(w, e.state));
+    print::word(b"l2_map", entries::set_l2_map(w, e.l2_map));
+    print::word(b"mig_type", entries::set_mig_type(w, e.mig_type));
+    print::word(b"gpa", entries::set_gpa(w, e.gpa));
+    print::word(b"operation", entries::set_operation(w, e.operation));
+    print::word(b"status", status_from(w, v));
+    print::end();
+}
+
+fn info_from(w: u64, v: u64) {
+    let x = infos::info_of(v);
+    print::text(b"  info with");
+    print::word(b"format", infos::set_format(w, x.format));
+    print::word(b"first", infos::set_first(w, x.first));
+    print::word(b"hpa", infos::set_hpa(w, x.hpa));
+    print::word(b"last", infos::set_last(w, x.last));
+    print::end();
+}
+
+fn record_from(w: u64, v: u64) {
+    let p = records::record_of(v);
+    print::text(b"  record with");
+    print::word(b"state", records::set_state(w, p.state));
+    print::word(b"dirty", records::set_dirty(w, p.dirty));
+    print::word(b"cached", records::set_cached(w, p.cached));
+    print::word(b"stamp", records::set_stamp(w, p.stamp));
+    print::word(b"epoch", records::set_epoch(w, p.epoch));
+    print::end();
+}
+
+pub(crate) fn each_from(w: u64, v: u64) {
+    entry_from(w, v);
+    info_from(w, v);
+    record_from(w, v);
 }

@@ -42,6 +42,7 @@ unfolding recordOf
 record-fits w =
     record { state = run-lt w 7 0; spare10 = run-lt w 15 10; stamp = run-lt w 31 16; epoch = run-lt w 47 32; spare48 = run-lt w 63 48 }
 
+-- (`record` is a word of antt's)
 abbrev pub wordZero : Word Record recordOf recordWord RecordFits
 unfolding recordOf
 wordZero =

@@ -16,14 +16,6 @@ use Rattle.words.specs.Runs.{run, bit}
 
 -- ---- one run
 
--- what a shift and a mask read
-pub masked : (w hi lo : ℕ) → bitAnd (w / 2 ^ lo) (2 ^ (hi + 1 - lo) - 1) ≡ run w hi lo
-masked w hi lo = and-mask (w / 2 ^ lo) (hi + 1 - lo)
-
--- what a mask alone reads: the lowest run
-pub lowest : (w hi : ℕ) → bitAnd w (2 ^ (hi + 1) - 1) ≡ w / 1 % 2 ^ (hi + 1)
-lowest w hi = and-mask w (hi + 1) ∙ ap (λ (m : ℕ). m % 2 ^ (hi + 1)) (sym (div-one w))
-
 pub run-lt : (w hi lo : ℕ) → run w hi lo < 2 ^ (hi + 1 - lo)
 run-lt w hi lo = mod-lt (w / 2 ^ lo) (pow-pos (hi + 1 - lo))
 
@@ -103,6 +95,20 @@ whole-digits ks w = split-digits 0 ks w ∙ ap (digits ks) (div-one w)
 
 whole-number : (ks xs : List ℕ) → join 0 ks xs ≡ number ks xs
 whole-number ks xs = join-number 0 ks xs ∙ mul-one (number ks xs)
+
+-- ---- what a reader computes: each run shifted down and masked
+
+abbrev pub masks : ℕ → List ℕ → ℕ → List ℕ
+masks lo [] w = []
+masks lo (k ∷ ks) w = bitAnd (w / 2 ^ lo) (2 ^ k - 1) ∷ masks (lo + k) ks w
+
+pub masks-split : (lo : ℕ) (ks : List ℕ) (w : ℕ) → masks lo ks w ≡ split lo ks w
+masks-split lo [] w = refl
+masks-split lo (k ∷ ks) w = ap₂ (λ (x : ℕ) (xs : List ℕ). x ∷ xs) (and-mask (w / 2 ^ lo) k) (masks-split (lo + k) ks w)
+
+-- the lowest run needs no shift
+pub low-mask : (k w : ℕ) → bitAnd w (2 ^ k - 1) ≡ w / 2 ^ 0 % 2 ^ k
+low-mask k w = and-mask w k ∙ ap (λ (m : ℕ). m % 2 ^ k) (sym (div-one w))
 
 -- ---- splitting and joining are inverse
 

@@ -1,12 +1,12 @@
 -- A word that a struct names run by run: what is proved once for all such words, from `Runs`. `read` and `write` are the word's definitions in specs/.
-use mathlib.Core.Path.{_≡_, sym, ap, _∙_, subst}
+use mathlib.Core.Path.{_≡_, sym, ap, ap₂, _∙_, subst}
 use mathlib.Core.List.{List, _∷_}
-use Prim.Native.Nat.{ℕ, _+_, _*_, _%_, _^_, _<_}
+use Prim.Native.Nat.{ℕ, _+_, _-_, _*_, _%_, _^_, _<_}
 use native.Mathlib.Nat.{mul-one, zero-add}
 use native.Mathlib.Omega.{arith}
 use lib.Bits.{bitAnd, bitOr}
 use lib.ListN.{getD, length, set}
-use Rattle.words.proofs.Runs.{split, join, Fit, total, place, ones, but, orAll, split-join, join-split, join-lt, or-join, set-split, set-lowest}
+use Rattle.words.proofs.Runs.{split, masks, masks-split, low-mask, join, Fit, total, place, ones, but, orAll, split-join, join-split, join-lt, or-join, set-split, set-lowest}
 
 pub record Word (A : Type 0) (read : ℕ → A) (write : A → ℕ) (Fits : A → Type 0) : Type 0 where
   -- the widths: of the lowest run, and of those above it
@@ -51,8 +51,15 @@ module _ {A : Type 0} {read : ℕ → A} {write : A → ℕ} {Fits : A → Type 
 
   -- ---- what the code computes
 
-  pub read-code : (w : ℕ) {a : A} → a ≡ read w → (a ≡ read w) × Fits a
-  read-code w e = (e, subst Fits (sym e) (W .fits w))
+  pub read-code : (w : ℕ) → (W .of (bitAnd w (2 ^ W .low - 1) ∷ masks (W .low) (W .above) w) ≡ read w)
+      × Fits (W .of (bitAnd w (2 ^ W .low - 1) ∷ masks (W .low) (W .above) w))
+  read-code w = (same, subst Fits (sym same) (W .fits w))
+    where
+      same : W .of (bitAnd w (2 ^ W .low - 1) ∷ masks (W .low) (W .above) w) ≡ read w
+      same =
+          ap₂ (λ (x : ℕ) (xs : List ℕ). W .of (x ∷ xs)) (low-mask (W .low) w)
+          (masks-split (W .low) (W .above) w ∙ ap (λ (lo : ℕ). split lo (W .above) w) (sym (zero-add (W .low))))
+          ∙ sym (W .reads w)
 
   pub write-code : (a : A) → Fits a → orAll (W .lowRun a) (W .low) (W .above) (W .runsAbove a) ≡ write a
   write-code a f =

@@ -1,10 +1,10 @@
 pub mod Runs
-pub mod Entry
-pub mod Info
 pub mod Record
+pub mod States
 pub mod Class
 pub mod Codes
+pub mod Entry
+pub mod Info
 pub mod Hints
 pub mod Operations
-pub mod States
 pub mod Statuses

@@ -1,4 +1,5 @@
--- Word 0 of a page record, its seven runs lowest first. This is the record's one definition: a request that gives a run another meaning changes it here.
+-- Word 0 of a page record, its seven runs lowest first. A request that gives a run another meaning changes this page, and with it the code and the laws of
+-- this crate's record.
 use mathlib.Core.Bool.{Bool, _&&_}
 use Prim.Native.Nat.{ℕ, _+_, _*_, _^_, _<_}
 use lib.Dec.{eqb}

@@ -1,4 +1,4 @@
-// Completion codes: the numbers are the house's, the names those of 000, but for MALFORMED and TLB_EPOCH_AT_LIMIT.
+// Completion codes. The numbers are the house's. The names are those of 000, but for 0 to 3, 40 and 56, which are named after what document 01 says of them.
 pub const DONE: u64 = 0;
 
 pub const INTERRUPTED: u64 = 1;

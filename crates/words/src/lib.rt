@@ -2,14 +2,14 @@
 //
 // A state number is a byte. Every other field that is no flag is a u64, so that nobody above casts it before comparing it with a session's number.
 
-// A GPA list entry.
-pub mod entries;
-// The word that tells which entries of a list are meant.
-pub mod infos;
 // Word 0 of a page record.
 pub mod records;
 // The class of a Secure EPT state number.
 pub mod classes;
+// A GPA list entry.
+pub mod entries;
+// The word that tells which entries of a list are meant.
+pub mod infos;
 
 // The numbers that have names.
 pub mod codes;

@@ -1,4 +1,4 @@
-//! What the tests share. Everything here is written from document 01, and from nothing of the crates under test.
+//! What the tests share. The rules here are written from document 01, and from nothing of the crates under test.
 
 pub mod program;
 pub mod random;

@@ -17,20 +17,20 @@ pub fn with_run(w: u64, hi: u32, lo: u32, v: u64) -> u64 {
         .fold(0, |n, i| 2 * n + if lo <= i && i <= hi { bit(v, i - lo) } else { bit(w, i) })
 }
 
-/// A run of a word: its name, its highest and lowest bit, and whether one may set it alone.
+/// A run of a word: what the programs call it, its highest and lowest bit, and whether document 01 names it.
 pub struct Run {
     pub name: &'static str,
     pub hi: u32,
     pub lo: u32,
-    pub settable: bool,
+    pub named: bool,
 }
 
 const fn field(name: &'static str, hi: u32, lo: u32) -> Run {
-    Run { name, hi, lo, settable: true }
+    Run { name, hi, lo, named: true }
 }
 
 const fn reserved(name: &'static str, hi: u32, lo: u32) -> Run {
-    Run { name, hi, lo, settable: false }
+    Run { name, hi, lo, named: false }
 }
 
 pub const ENTRY: [Run; 11] = [
@@ -67,7 +67,7 @@ pub const RECORD: [Run; 7] = [
 
 /// No bit of a record is set but those that document 01 names.
 pub fn plain(w: u64) -> bool {
-    RECORD.iter().all(|r| r.settable || run(w, r.hi, r.lo) == 0)
+    RECORD.iter().all(|r| r.named || run(w, r.hi, r.lo) == 0)
 }
 
 /// The class of a state number, as a word of text.
@@ -78,5 +78,22 @@ pub fn class(state: u64) -> &'static str {
         1 | 2 | 3 | 4 | 8 | 9 | 11 | 12 | 16 | 17 | 19 | 20 => "leaf",
         24 | 25 | 26 | 29 | 30 | 31 | 32 | 33 | 34 | 65 | 68 | 96 | 97 => "leaf",
         _ => "unlisted",
+    }
+}
+
+#[cfg(test)]
+mod tests {
+    use super::*;
+
+    /// The tables above, on which every comparison rests, leave no bit out and have none twice.
+    #[test]
+    fn the_runs_fill_each_word() {
+        for runs in [&ENTRY[..], &INFO[..], &RECORD[..]] {
+            let ends = runs.iter().fold(0, |next, r| {
+                assert_eq!(r.lo, next, "{}", r.name);
+                r.hi + 1
+            });
+            assert_eq!(ends, 64);
+        }
     }
 }

@@ -13,9 +13,6 @@ abbrev μ-loop : tie.MeasureT-loop
 print-all-requires : tie.Need-print-all-requires Inv-loop μ-loop
 print-all-requires c κs = search needs
 
-print-all-requires-2 : tie.Need-print-all-requires-2 Inv-loop μ-loop
-print-all-requires-2 c κs = search needs
-
 empty-requires : tie.Need-empty-requires Inv-loop μ-loop
 empty-requires c κs = search needs
 
@@ -62,7 +59,6 @@ main-spec =
     Inv-loop
     μ-loop
     print-all-requires
-    print-all-requires-2
     empty-requires
     large-buffer-requires
     slice-aggregate-buffer

@@ -1,8 +1,6 @@
 -- Each run is what its shift and mask read.
-use Prim.Native.Nat.{ℕ}
 use lib.Bits.{mask-lt}
 use Rattle.words.specs.Record.{recordOf}
-use Rattle.words.proofs.Runs.{masked, lowest}
 use Rattle.words.proofs.RecordLaws.{wordZero}
 use Rattle.words.proofs.Words.{read-code}
 use Rattle.words.proofs.records.record_of.Statement.{statement}
@@ -13,9 +11,7 @@ cast-t3 c = record { fits = mask-lt (c .args .w) 8 }
 
 returns : tie.Need-returns
 unfolding recordOf
-returns c =
-    let w : ℕ = c .args .w in
-    read-code wordZero w (cc (lowest w 7, masked w 8 8, masked w 9 9, masked w 15 10, masked w 31 16, masked w 47 32, masked w 63 48))
+returns c = read-code wordZero (c .args .w)
 
 pub record-of-spec : {M : Type 1} → statement M
 record-of-spec = tie.close (tie.spec cast-t3 returns)

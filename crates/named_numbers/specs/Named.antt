@@ -13,7 +13,7 @@ codeNumbers =
 
 abbrev pub stateNumbers : List ℕ
 stateNumbers =
-    States.free ∷ States.blocked ∷ States.pending ∷ States.pendingBlocked ∷ States.mapped ∷ States.exported ∷ States.exportedModified ∷ States.exportedBlocked ∷ States.exportedRemoved ∷ States.pendingExported ∷ States.pendingExportedModified ∷ States.pendingExportedBlocked ∷ []
+    States.free ∷ States.blocked ∷ States.pending ∷ States.pendingBlocked ∷ States.mapped ∷ States.exported ∷ States.exportedModified ∷ States.exportedBlocked ∷ States.exportedRemoved ∷ States.pendingExported ∷ States.pendingExportedModified ∷ States.pendingExportedBlocked ∷ States.removed ∷ States.removeInProgress ∷ States.blockedw ∷ States.exportedBlockedw ∷ States.exportedDirty ∷ States.exportedDirtyBlockedw ∷ States.pendingBlockedw ∷ States.pendingExportedBlockedw ∷ States.pendingExportedDirty ∷ States.pendingExportedDirtyBlockedw ∷ States.exportedRemoveInProgress ∷ States.mmioMapped ∷ States.mmioBlocked ∷ States.mmioPending ∷ States.l2Free ∷ States.l2Blocked ∷ States.l2Mapped ∷ States.l2MmioMapped ∷ States.l2MmioBlocked ∷ States.nlBlocked ∷ States.nlMapped ∷ States.l2NlBlocked ∷ States.l2NlMapped ∷ []
 
 abbrev pub statusNumbers : List ℕ
 statusNumbers =

@@ -1,7 +1,7 @@
-// The named numbers, in the order of their lists.
+// Prints the named numbers of `words`, each list in its order. That the code and specs/ give each name the same number is proved on the way.
 ghost use mathlib.Core.Path.{_≡_};
-ghost use Rattle.word_vectors.specs.Named.{codeNumbers, stateNumbers, statusNumbers, operationNumbers, hintNumbers};
-use crate::print;
+ghost use Rattle.named_numbers.specs.Named.{codeNumbers, stateNumbers, statusNumbers, operationNumbers, hintNumbers};
+use libc::STDOUT_FILENO;
 use words::codes;
 use words::hints;
 use words::operations;
@@ -36,7 +36,7 @@ fn code_numbers() -> [u64; 21]
     ]
 }
 
-fn state_numbers() -> [u64; 12]
+fn state_numbers() -> [u64; 35]
     ensures { λ r. ⌜ r ≡ stateNumbers ⌝ }
 {
     [
@@ -52,6 +52,29 @@ fn state_numbers() -> [u64; 12]
         states::PENDING_EXPORTED as u64,
         states::PENDING_EXPORTED_MODIFIED as u64,
         states::PENDING_EXPORTED_BLOCKED as u64,
+        states::REMOVED as u64,
+        states::REMOVE_IN_PROGRESS as u64,
+        states::BLOCKEDW as u64,
+        states::EXPORTED_BLOCKEDW as u64,
+        states::EXPORTED_DIRTY as u64,
+        states::EXPORTED_DIRTY_BLOCKEDW as u64,
+        states::PENDING_BLOCKEDW as u64,
+        states::PENDING_EXPORTED_BLOCKEDW as u64,
+        states::PENDING_EXPORTED_DIRTY as u64,
+        states::PENDING_EXPORTED_DIRTY_BLOCKEDW as u64,
+        states::EXPORTED_REMOVE_IN_PROGRESS as u64,
+        states::MMIO_MAPPED as u64,
+        states::MMIO_BLOCKED as u64,
+        states::MMIO_PENDING as u64,
+        states::L2_FREE as u64,
+        states::L2_BLOCKED as u64,
+        states::L2_MAPPED as u64,
+        states::L2_MMIO_MAPPED as u64,
+        states::L2_MMIO_BLOCKED as u64,
+        states::NL_BLOCKED as u64,
+        states::NL_MAPPED as u64,
+        states::L2_NL_BLOCKED as u64,
+        states::L2_NL_MAPPED as u64,
     ]
 }
 
@@ -92,11 +115,33 @@ fn hint_numbers() -> [u64; 4]
     ]
 }
 
-pub(crate) fn print_all() {
-    print::list(b"codes", &code_numbers());
-    print::list(b"\nstates", &state_numbers());
-    print::list(b"\nstatuses", &status_numbers());
-    print::list(b"\noperations", &operation_numbers());
-    print::list(b"\nhints", &hint_numbers());
-    print::text(b"\n");
+fn text(s: &[u8]) {
+    io::write_all(STDOUT_FILENO, s);
+}
+
+fn decimal(n: u64) {
+    text(b" ");
+    io::print_decimal(STDOUT_FILENO, n);
+}
+
+fn end() {
+    text(b"\n");
+}
+
+fn list(name: &[u8], ns: &[u64]) {
+    text(name);
+    let mut i = 0;
+    while i < ns.len() {
+        decimal(ns[i]);
+        i += 1;
+    }
+    end();
+}
+
+fn main() {
+    list(b"codes", &code_numbers());
+    list(b"states", &state_numbers());
+    list(b"statuses", &status_numbers());
+    list(b"operations", &operation_numbers());
+    list(b"hints", &hint_numbers());
 }

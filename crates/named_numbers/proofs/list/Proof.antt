@@ -2,8 +2,8 @@
 use Prim.Native.Nat.{_-_, _≤_}
 use lib.ListN.{length}
 use borrow.Author.Needs.{needs}
-use Rattle.word_vectors.proofs.print.list.Statement.{statement}
-use Rattle.word_vectors.proofs.print.list.Tie as tie
+use Rattle.named_numbers.proofs.list.Statement.{statement}
+use Rattle.named_numbers.proofs.list.Tie as tie
 
 abbrev Inv-loop : tie.InvT-loop
 Inv-loop name ns i₀ i = i ≤ length ns
@@ -35,6 +35,9 @@ loop-less c = search needs
 loop-again : tie.Need-loop-again Inv-loop μ-loop
 loop-again c = search needs
 
+end-requires : tie.Need-end-requires Inv-loop μ-loop
+end-requires c κs = search needs
+
 returns : tie.Need-returns Inv-loop μ-loop
 returns c = search needs
 
@@ -52,4 +55,5 @@ list-spec =
     add-i
     loop-less
     loop-again
+    end-requires
     returns)
