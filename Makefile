@@ -3,7 +3,8 @@
 
 # Proves and builds what there is to run, and runs it.
 run:
-	rt check word_vectors
+	rt check named_numbers word_vectors
+	target/bin/named_numbers
 	target/bin/word_vectors < crates/word_vectors/stdin
 
 # The gate.
