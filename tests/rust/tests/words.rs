@@ -77,7 +77,7 @@ fn same_pairs(pairs: &[(u64, u64)]) {
 }
 
 #[test]
-fn c1_named_numbers() {
+fn named_numbers() {
     let expected = "\
 codes 0 1 2 3 40 41 42 43 44 45 46 47 48 49 50 51 52 53 54 55 56
 states 0 1 2 3 4 24 25 26 27 29 30 31 5 6 8 9 11 12 16 17 19 20 28 32 33 34 64 65 68 96 97 129 132 193 196
@@ -89,7 +89,7 @@ hints 0 1 2 3
 }
 
 #[test]
-fn t1_to_t10_t13_built_words() {
+fn words_built_from_their_fields() {
     same("", "");
 }
 
