@@ -89,12 +89,13 @@ pub(crate) fn apart(w: u64) {
     record(w);
 }
 
-// The word w with each of its fields in turn taken from v.
+// STATUS alone: the setter asks for a range that the reader promises, and the search for it does not reach across all the fields below.
 fn status_from(w: u64, v: u64) -> u64 {
     let e = entries::entry_of(v);
     entries::set_status(w, e.status)
 }
 
+// The word w with each of its fields in turn taken from v.
 fn entry_from(w: u64, v: u64) {
     let e = entries::entry_of(v);
     print::text(b"  entry with");

@@ -172,12 +172,12 @@ number-and (k ∷ ks) (true ∷ bs) w =
 number-and (k ∷ ks) (false ∷ bs) w =
     and-digit k w (number ks (ones ks bs)) 0 (pow-pos k) ∙ ap₂ (λ (m n : ℕ). m * 2 ^ k + n) (number-and ks bs (w / 2 ^ k)) (and-zero-r (w % 2 ^ k))
 
+and-number : (ks : List ℕ) (bs : List Bool) (w : ℕ) → bitAnd w (join 0 ks (ones ks bs)) ≡ number ks (kept bs (digits ks w))
+and-number ks bs w = ap (bitAnd w) (whole-number ks (ones ks bs)) ∙ number-and ks bs w
+
 pub and-join : (ks : List ℕ) (bs : List Bool) (w : ℕ) → bitAnd w (join 0 ks (ones ks bs)) ≡ join 0 ks (kept bs (split 0 ks w))
 and-join ks bs w =
-    ap (bitAnd w) (whole-number ks (ones ks bs))
-    ∙ number-and ks bs w
-    ∙ ap (λ (l : List ℕ). number ks (kept bs l)) (sym (whole-digits ks w))
-    ∙ sym (whole-number ks (kept bs (split 0 ks w)))
+    and-number ks bs w ∙ ap (λ (l : List ℕ). number ks (kept bs l)) (sym (whole-digits ks w)) ∙ sym (whole-number ks (kept bs (split 0 ks w)))
 
 -- ---- what a writer computes: the runs from bit lo on, each shifted to its place and joined to what stands below
 
@@ -260,9 +260,7 @@ module _ (ks : List ℕ) (i w : ℕ) {v : ℕ} (l : i < length ks) (h : v < 2 ^ 
   put-split =
       whole-digits ks (bitOr (bitAnd w (join 0 ks (ones ks (but ks i)))) (v * 2 ^ place ks i))
       ∙ ap (λ (m : ℕ). digits ks (bitOr m (v * 2 ^ place ks i)))
-      (ap (bitAnd w) (whole-number ks (ones ks (but ks i)))
-      ∙ number-and ks (but ks i) w
-      ∙ ap (number ks) (kept-but ks (digits ks w) i (digits-fit ks w)))
+      (and-number ks (but ks i) w ∙ ap (number ks) (kept-but ks (digits ks w) i (digits-fit ks w)))
       ∙ ap (digits ks) (number-or ks (digits ks w) i (digits-fit ks w) l h)
       ∙ digits-number ks (set (digits ks w) i v) (set-fit ks (digits ks w) i (digits-fit ks w) h)
       ∙ ap (λ (xs : List ℕ). set xs i v) (sym (whole-digits ks w))
