@@ -1,0 +1,288 @@
+-- Each arm is its clause of the definition, by the contract of the call that it makes.
+use borrow.Author.Needs.{needs}
+use Rattle.migration.proofs.Laws.{new-epoch-table, reset-table}
+use Rattle.calls.specs.Calls.{plainly}
+use mathlib.Core.Path.{refl, sym, ap, _∙_}
+use Rattle.calls.proofs.perform.Statement.{statement}
+use Rattle.calls.proofs.perform.Tie as tie
+
+enum-known-call : tie.Need-enum-known-call
+enum-known-call c = search needs
+
+new-requires : tie.Need-new-requires
+new-requires c κs = search needs
+
+without-page-requires : tie.Need-without-page-requires
+without-page-requires c κs = search needs
+
+enum-known-call-2 : tie.Need-enum-known-call-2
+enum-known-call-2 c = search needs
+
+write-requires : tie.Need-write-requires
+write-requires c κs = search needs
+
+without-page-requires-2 : tie.Need-without-page-requires-2
+without-page-requires-2 c κs = search needs
+
+enum-known-call-3 : tie.Need-enum-known-call-3
+enum-known-call-3 c = search needs
+
+add-requires : tie.Need-add-requires
+add-requires c κs = search needs
+
+without-page-requires-3 : tie.Need-without-page-requires-3
+without-page-requires-3 c κs = search needs
+
+enum-known-call-4 : tie.Need-enum-known-call-4
+enum-known-call-4 c = search needs
+
+accept-requires : tie.Need-accept-requires
+accept-requires c κs = search needs
+
+without-page-requires-4 : tie.Need-without-page-requires-4
+without-page-requires-4 c κs = search needs
+
+enum-known-call-5 : tie.Need-enum-known-call-5
+enum-known-call-5 c = search needs
+
+block-requires : tie.Need-block-requires
+block-requires c κs = search needs
+
+without-page-requires-5 : tie.Need-without-page-requires-5
+without-page-requires-5 c κs = search needs
+
+enum-known-call-6 : tie.Need-enum-known-call-6
+enum-known-call-6 c = search needs
+
+unblock-requires : tie.Need-unblock-requires
+unblock-requires c κs = search needs
+
+without-page-requires-6 : tie.Need-without-page-requires-6
+without-page-requires-6 c κs = search needs
+
+enum-known-call-7 : tie.Need-enum-known-call-7
+enum-known-call-7 c = search needs
+
+remove-requires : tie.Need-remove-requires
+remove-requires c κs = search needs
+
+without-page-requires-7 : tie.Need-without-page-requires-7
+without-page-requires-7 c κs = search needs
+
+enum-told : tie.Need-enum-told
+enum-told c = search needs
+
+track-requires : tie.Need-track-requires
+track-requires c κs = search needs
+
+without-page-requires-8 : tie.Need-without-page-requires-8
+without-page-requires-8 c κs = search needs
+
+enum-told-2 : tie.Need-enum-told-2
+enum-told-2 c = search needs
+
+start-requires : tie.Need-start-requires
+start-requires c κs = search needs
+
+without-page-requires-9 : tie.Need-without-page-requires-9
+without-page-requires-9 c κs = search needs
+
+enum-told-3 : tie.Need-enum-told-3
+enum-told-3 c = search needs
+
+pause-requires : tie.Need-pause-requires
+pause-requires c κs = search needs
+
+without-page-requires-10 : tie.Need-without-page-requires-10
+without-page-requires-10 c κs = search needs
+
+enum-told-4 : tie.Need-enum-told-4
+enum-told-4 c = search needs
+
+abort-requires : tie.Need-abort-requires
+abort-requires c κs = search needs
+
+without-page-requires-11 : tie.Need-without-page-requires-11
+without-page-requires-11 c κs = search needs
+
+enum-told-5 : tie.Need-enum-told-5
+enum-told-5 c = search needs
+
+new-epoch-requires : tie.Need-new-epoch-requires
+new-epoch-requires c κs = search needs
+
+without-page-requires-12 : tie.Need-without-page-requires-12
+without-page-requires-12 c κs = search needs
+
+enum-told-6 : tie.Need-enum-told-6
+enum-told-6 c = search needs
+
+reset-requires : tie.Need-reset-requires
+reset-requires c κs = search needs
+
+without-page-requires-13 : tie.Need-without-page-requires-13
+without-page-requires-13 c κs = search needs
+
+enum-told-7 : tie.Need-enum-told-7
+enum-told-7 c = search needs
+
+start-token-requires : tie.Need-start-token-requires
+start-token-requires c κs = search needs
+
+same-length : tie.Need-same-length
+same-length c = search needs
+
+returns : tie.Need-returns
+returns c = rw (c .before .before .before .before .before .before .call .given .1) (c .without-page .ensures ∙ ap plainly (c .before .before .before .new .ensures .0), c .before .before .before .new .ensures .1)
+
+same-length-2 : tie.Need-same-length-2
+same-length-2 c = search needs
+
+returns-2 : tie.Need-returns-2
+returns-2 c = rw (c .before .before .before .before .before .before .call2 .given .1) (c .without-page2 .ensures ∙ ap plainly (c .before .before .before .write .ensures .0), c .before .before .before .write .ensures .1)
+
+same-length-3 : tie.Need-same-length-3
+same-length-3 c = search needs
+
+returns-3 : tie.Need-returns-3
+returns-3 c = rw (c .before .before .before .before .before .before .call3 .given .1) (c .without-page3 .ensures ∙ ap plainly (c .before .before .before .add .ensures .0), c .before .before .before .add .ensures .1)
+
+same-length-4 : tie.Need-same-length-4
+same-length-4 c = search needs
+
+returns-4 : tie.Need-returns-4
+returns-4 c = rw (c .before .before .before .before .before .before .call4 .given .1) (c .without-page4 .ensures ∙ ap plainly (c .before .before .before .accept .ensures .0), c .before .before .before .accept .ensures .1)
+
+same-length-5 : tie.Need-same-length-5
+same-length-5 c = search needs
+
+returns-5 : tie.Need-returns-5
+returns-5 c = rw (c .before .before .before .before .before .before .call5 .given .1) (c .without-page5 .ensures ∙ ap plainly (c .before .before .before .block .ensures .0), c .before .before .before .block .ensures .1)
+
+same-length-6 : tie.Need-same-length-6
+same-length-6 c = search needs
+
+returns-6 : tie.Need-returns-6
+returns-6 c = rw (c .before .before .before .before .before .before .call6 .given .1) (c .without-page6 .ensures ∙ ap plainly (c .before .before .before .unblock .ensures .0), c .before .before .before .unblock .ensures .1)
+
+same-length-7 : tie.Need-same-length-7
+same-length-7 c = search needs
+
+returns-7 : tie.Need-returns-7
+returns-7 c = rw (c .before .before .before .before .before .before .call7 .given .1) (c .without-page7 .ensures ∙ ap plainly (c .before .before .before .remove .ensures .0), c .before .before .before .remove .ensures .1)
+
+same-length-8 : tie.Need-same-length-8
+same-length-8 c = search needs
+
+returns-8 : tie.Need-returns-8
+returns-8 c = rw (c .before .before .before .before .before .enum-told .given .1) (c .without-page8 .ensures ∙ ap plainly (c .before .before .before .track .ensures .0), c .before .before .before .track .ensures .1)
+
+same-length-9 : tie.Need-same-length-9
+same-length-9 c = search needs
+
+returns-9 : tie.Need-returns-9
+returns-9 c = rw (c .before .before .before .before .before .enum-told2 .given .1) (c .without-page9 .ensures ∙ ap plainly (c .before .before .before .start .ensures .0), c .before .before .before .start .ensures .1)
+
+same-length-10 : tie.Need-same-length-10
+same-length-10 c = search needs
+
+returns-10 : tie.Need-returns-10
+returns-10 c = rw (c .before .before .before .before .before .enum-told3 .given .1) (c .without-page10 .ensures ∙ ap plainly (c .before .before .before .pause .ensures .0), c .before .before .before .pause .ensures .1)
+
+same-length-11 : tie.Need-same-length-11
+same-length-11 c = search needs
+
+returns-11 : tie.Need-returns-11
+returns-11 c = rw (c .before .before .before .before .before .enum-told4 .given .1) (c .without-page11 .ensures ∙ ap plainly (c .before .before .before .abort .ensures .0), c .before .before .before .abort .ensures .1)
+
+same-length-12 : tie.Need-same-length-12
+same-length-12 c = search needs
+
+returns-12 : tie.Need-returns-12
+returns-12 c = rw (c .before .before .before .enum-told5 .given .1) (c .without-page12 .ensures ∙ ap plainly (c .before .new-epoch .ensures), sym (new-epoch-table _ _))
+
+same-length-13 : tie.Need-same-length-13
+same-length-13 c = search needs
+
+returns-13 : tie.Need-returns-13
+returns-13 c = rw (c .before .before .before .enum-told6 .given .1) (c .without-page13 .ensures ∙ ap plainly (c .before .reset .ensures), sym (reset-table _ _))
+
+same-length-14 : tie.Need-same-length-14
+same-length-14 c = search needs
+
+returns-14 : tie.Need-returns-14
+returns-14 c = rw (c .before .before .enum-told7 .given .1) (c .start-token .ensures, refl)
+
+pub perform-spec : {M : Type 1} → statement M
+perform-spec =
+    tie.close
+    (tie.spec
+    enum-known-call
+    new-requires
+    without-page-requires
+    enum-known-call-2
+    write-requires
+    without-page-requires-2
+    enum-known-call-3
+    add-requires
+    without-page-requires-3
+    enum-known-call-4
+    accept-requires
+    without-page-requires-4
+    enum-known-call-5
+    block-requires
+    without-page-requires-5
+    enum-known-call-6
+    unblock-requires
+    without-page-requires-6
+    enum-known-call-7
+    remove-requires
+    without-page-requires-7
+    enum-told
+    track-requires
+    without-page-requires-8
+    enum-told-2
+    start-requires
+    without-page-requires-9
+    enum-told-3
+    pause-requires
+    without-page-requires-10
+    enum-told-4
+    abort-requires
+    without-page-requires-11
+    enum-told-5
+    new-epoch-requires
+    without-page-requires-12
+    enum-told-6
+    reset-requires
+    without-page-requires-13
+    enum-told-7
+    start-token-requires
+    same-length
+    returns
+    same-length-2
+    returns-2
+    same-length-3
+    returns-3
+    same-length-4
+    returns-4
+    same-length-5
+    returns-5
+    same-length-6
+    returns-6
+    same-length-7
+    returns-7
+    same-length-8
+    returns-8
+    same-length-9
+    returns-9
+    same-length-10
+    returns-10
+    same-length-11
+    returns-11
+    same-length-12
+    returns-12
+    same-length-13
+    returns-13
+    same-length-14
+    returns-14)

@@ -1,0 +1,39 @@
+-- By the code: the inputs, or what the two functions make.
+use borrow.Author.Needs.{needs}
+use Rattle.memory.specs.Memory.{newOut}
+use Rattle.session.specs.Outcome.{answered}
+use borrow.Author.Tests.{eq-eqb, ne-eqb}
+use mathlib.Core.Path.{refl}
+use Rattle.memory.proofs.new.Statement.{statement}
+use Rattle.memory.proofs.new.Tie as tie
+
+new-code-requires : tie.Need-new-code-requires
+new-code-requires c κs = search needs
+
+returns : tie.Need-returns
+unfolding newOut answered
+returns c = rw (← c .before .new-code .ensures, ne-eqb _ _ (c .if1 .taken)) (refl, refl)
+
+clear-requires : tie.Need-clear-requires
+clear-requires c κs = search needs
+
+new-session-requires : tie.Need-new-session-requires
+new-session-requires c κs = search needs
+
+same-length : tie.Need-same-length
+same-length c = search needs
+
+returns-2 : tie.Need-returns-2
+unfolding newOut answered
+returns-2 c = rw (← c .before .before .before .before .before .before .new-code .ensures, eq-eqb _ _ (c .before .before .before .before .before .if1 .left), ← c .new-session .ensures) (refl, c .before .before .before .clear .ensures)
+
+pub new-spec : {M : Type 1} → statement M
+new-spec =
+    tie.close
+    (tie.spec
+    new-code-requires
+    returns
+    clear-requires
+    new-session-requires
+    same-length
+    returns-2)

@@ -1,0 +1,49 @@
+-- Each way out is the definition at the tests that led there.
+use borrow.Author.Needs.{needs}
+use Rattle.memory.specs.Memory.{pageCode}
+use mathlib.Core.Path.{ap}
+use Rattle.session.specs.declared.Comes.{Comes}
+use Rattle.memory.proofs.page_code.Statement.{statement}
+use Rattle.memory.proofs.page_code.Tie as tie
+
+comes-in-requires : tie.Need-comes-in-requires
+comes-in-requires c κs = search needs
+
+is-block-requires : tie.Need-is-block-requires
+is-block-requires c κs = search needs
+
+is-formed-requires : tie.Need-is-formed-requires
+is-formed-requires c κs = search needs
+
+returns : tie.Need-returns
+unfolding pageCode
+returns c = rw (← c .before .before .before .before .is-formed .ensures, ← c .before .before .before .before .before .is-block .ensures, ← ap (λ (x : Comes). x .blackout) (c .before .before .before .before .before .before .comes-in .ensures), ← ap (λ (x : Comes). x .guest) (c .before .before .before .before .before .before .comes-in .ensures), c .if1 .taken)
+
+returns-2 : tie.Need-returns-2
+unfolding pageCode
+returns-2 c = rw (← c .before .before .before .before .before .is-formed .ensures, ← c .before .before .before .before .before .before .is-block .ensures, ← ap (λ (x : Comes). x .blackout) (c .before .before .before .before .before .before .before .comes-in .ensures), ← ap (λ (x : Comes). x .guest) (c .before .before .before .before .before .before .before .comes-in .ensures), c .before .if1 .left, c .if2 .taken)
+
+returns-3 : tie.Need-returns-3
+unfolding pageCode
+returns-3 c = rw (← c .before .before .before .before .before .before .is-formed .ensures, ← c .before .before .before .before .before .before .before .is-block .ensures, ← ap (λ (x : Comes). x .blackout) (c .before .before .before .before .before .before .before .before .comes-in .ensures), ← ap (λ (x : Comes). x .guest) (c .before .before .before .before .before .before .before .before .comes-in .ensures), c .before .before .if1 .left, c .before .if2 .left, c .if3 .taken)
+
+returns-4 : tie.Need-returns-4
+unfolding pageCode
+returns-4 c = rw (← c .before .before .before .before .before .before .before .is-formed .ensures, ← c .before .before .before .before .before .before .before .before .is-block .ensures, ← ap (λ (x : Comes). x .blackout) (c .before .before .before .before .before .before .before .before .before .comes-in .ensures), ← ap (λ (x : Comes). x .guest) (c .before .before .before .before .before .before .before .before .before .comes-in .ensures), c .before .before .before .if1 .left, c .before .before .if2 .left, c .before .if3 .left, c .if4 .taken)
+
+returns-5 : tie.Need-returns-5
+unfolding pageCode
+returns-5 c = rw (← c .before .before .before .before .before .before .before .is-formed .ensures, ← c .before .before .before .before .before .before .before .before .is-block .ensures, ← ap (λ (x : Comes). x .blackout) (c .before .before .before .before .before .before .before .before .before .comes-in .ensures), ← ap (λ (x : Comes). x .guest) (c .before .before .before .before .before .before .before .before .before .comes-in .ensures), c .before .before .before .if1 .left, c .before .before .if2 .left, c .before .if3 .left, c .if4 .left)
+
+pub page-code-spec : {M : Type 1} → statement M
+page-code-spec =
+    tie.close
+    (tie.spec
+    comes-in-requires
+    is-block-requires
+    is-formed-requires
+    returns
+    returns-2
+    returns-3
+    returns-4
+    returns-5)

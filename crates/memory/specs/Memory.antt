@@ -1,0 +1,89 @@
+-- The guest and memory calls, in document 01's order.
+use mathlib.Core.Bool.{Bool, true, false, cond, not, _&&_}
+use mathlib.Core.List.{List, [], _∷_}
+use Prim.Native.Nat.{ℕ, _+_}
+use lib.Dec.{eqb, leb}
+use lib.ListN.{length, replicate}
+use Rattle.words.specs.Codes as codes
+use Rattle.refusals.specs.Refusals.{_gives_, firstOf}
+use Rattle.page.specs.Moves.{turnOf}
+use Rattle.page.specs.Sweeps.{uncached}
+use Rattle.page.specs.declared.records.PageWords.{PageWords}
+use Rattle.page.specs.declared.moves.Turn.{Turn}
+use Rattle.page.specs.declared.moves.Move.{Move}
+use Rattle.page.specs.declared.moves.Move.the-variants.{Write, Add, Accept, Block, Unblock, Remove}
+use Rattle.table.specs.Table.{legal, pageCount, wordsAt, putAt}
+use Rattle.session.specs.Session.{isIn, guest, fresh, withTlb}
+use Rattle.session.specs.Formed.{formed, gated, within, fewestCreated, mostCreated, lastEpoch}
+use Rattle.session.specs.Outcome.{Outcome, answered, answeredBy}
+use Rattle.session.specs.declared.Phase.the-variants.{Blackout}
+use Rattle.session.specs.declared.Session.{Session}
+
+-- ---- New
+
+-- 40 (length), then 42
+unfoldable pub newCode : ℕ → ℕ → ℕ
+newCode len created =
+    firstOf (not (legal len) gives codes.malformed ∷ not (within fewestCreated mostCreated created) gives codes.operandInvalid ∷ [])
+
+-- the session given is not read, and comes back as it was when refused
+unfoldable pub newOut : Session → List ℕ → ℕ → Outcome
+newOut s t created =
+    answered (newCode (length t) created) s t (fresh (pageCount t) created) (replicate (length t) 0)
+
+-- ---- calls on one page
+
+abbrev pub isBlock : Move → Bool
+isBlock (Write mark) = false
+isBlock Add = false
+isBlock Accept = false
+isBlock Block = true
+isBlock Unblock = false
+isBlock Remove = false
+
+-- a block in Blackout is 49; a page number beyond the table is 42
+unfoldable pub pageCode : Move → Session → ℕ → ℕ → ℕ
+pageCode m s len at =
+    firstOf
+    (not (formed s len) gives codes.malformed
+    ∷ (isBlock m && isIn (Blackout ∷ []) (s .phase)) gives codes.blockingDisallowed
+    ∷ not (isIn guest (s .phase)) gives codes.opStateIncorrect
+    ∷ leb (s .pages) at gives codes.operandInvalid
+    ∷ [])
+
+-- the whole call on the page's two words
+unfoldable pub pageTurn : Move → Session → ℕ → ℕ → PageWords → Turn
+pageTurn m s len at w =
+    cond (eqb (pageCode m s len at) 0) (turnOf m w (s .tlb)) (record { code = pageCode m s len at; words = w })
+
+unfoldable pub onPage : Move → Session → List ℕ → ℕ → Outcome
+onPage m s t at =
+    let turn = pageTurn m s (length t) at (wordsAt t at) in answered (turn .code) s t s (putAt t at (turn .words))
+
+unfoldable pub writeOut : Session → List ℕ → ℕ → ℕ → Outcome
+writeOut s t at mark = onPage (Write mark) s t at
+
+unfoldable pub addOut : Session → List ℕ → ℕ → Outcome
+addOut s t at = onPage Add s t at
+
+unfoldable pub acceptOut : Session → List ℕ → ℕ → Outcome
+acceptOut s t at = onPage Accept s t at
+
+unfoldable pub blockOut : Session → List ℕ → ℕ → Outcome
+blockOut s t at = onPage Block s t at
+
+unfoldable pub unblockOut : Session → List ℕ → ℕ → Outcome
+unblockOut s t at = onPage Unblock s t at
+
+unfoldable pub removeOut : Session → List ℕ → ℕ → Outcome
+removeOut s t at = onPage Remove s t at
+
+-- ---- track
+
+-- 56 at the limit
+unfoldable pub trackCode : Session → ℕ → ℕ
+trackCode s len = gated s len guest (leb lastEpoch (s .tlb) gives codes.tlbEpochAtLimit ∷ [])
+
+-- TLB epoch plus one and every Cached bit cleared
+unfoldable pub trackOut : Session → List ℕ → Outcome
+trackOut s t = answeredBy uncached (trackCode s (length t)) s (withTlb s (s .tlb + 1)) t

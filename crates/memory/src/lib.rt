@@ -1,0 +1,177 @@
+// New, and the guest and memory calls.
+ghost use mathlib.Core.Path.{_≡_};
+ghost use Rattle.memory.specs.Memory.{newCode, newOut, isBlock, pageCode, pageTurn, onPage};
+ghost use Rattle.memory.specs.Memory.{writeOut, addOut, acceptOut, blockOut, unblockOut, removeOut, trackCode, trackOut};
+use page::moves;
+use page::moves::Move;
+use page::moves::Turn;
+use page::records::PageWords;
+use page::sweeps::Sweep;
+use session::Answer;
+use session::Session;
+use words::codes;
+
+fn new_code(len: usize, created: u64) -> u64
+    ensures { λ r. ⌜ r ≡ newCode len created ⌝ }
+{
+    let legal = table::is_legal(len);
+    if !legal {
+        return codes::MALFORMED;
+    }
+    if !((session::FEWEST_CREATED <= created) & (created <= session::MOST_CREATED)) {
+        return codes::OPERAND_INVALID;
+    }
+    codes::DONE
+}
+
+// A fresh bench over the lent table.
+pub fn new(s: Session, table: &mut [u64], created: u64) -> Answer
+    ensures { λ r. ⌜ r ≡ newOut s (now (table .entry)) created .answer ⌝ }
+    ensures { λ _. ⌜ now (table .exit) ≡ newOut s (now (table .entry)) created .table ⌝ }
+{
+    let code = new_code(table.len(), created);
+    if code != codes::DONE {
+        return Answer { code, session: s };
+    }
+    let pages = table.len() / 2;
+    table::clear(table);
+    let session = session::new_session(pages, created);
+    Answer { code, session }
+}
+
+// ---- calls on one page
+
+fn is_block(m: Move) -> bool
+    ensures { λ r. ⌜ r ≡ isBlock m ⌝ }
+{
+    match m {
+        Move::Write { mark: _ } => false,
+        Move::Add => false,
+        Move::Accept => false,
+        Move::Block => true,
+        Move::Unblock => false,
+        Move::Remove => false,
+    }
+}
+
+fn page_code(m: Move, s: Session, len: usize, at: usize) -> u64
+    ensures { λ r. ⌜ r ≡ pageCode m s len at ⌝ }
+{
+    let p = s.phase;
+    let comes = session::comes_in(p);
+    let block = is_block(m);
+    let formed = session::is_formed(s, len);
+    let beyond = s.pages <= at;
+    let barred = block & comes.blackout;
+    let away = !comes.guest;
+    if !formed {
+        return codes::MALFORMED;
+    }
+    if barred {
+        return codes::BLOCKING_DISALLOWED;
+    }
+    if away {
+        return codes::OP_STATE_INCORRECT;
+    }
+    if beyond {
+        return codes::OPERAND_INVALID;
+    }
+    codes::DONE
+}
+
+// The whole call on the page's two words, for whoever holds them without a table of words.
+pub fn on_words(m: Move, s: Session, len: usize, at: usize, w: PageWords) -> Turn
+    ensures { λ r. ⌜ r ≡ pageTurn m s len at w ⌝ }
+{
+    let code = page_code(m, s, len, at);
+    if code == codes::DONE {
+        return moves::take_turn(m, w, s.tlb);
+    }
+    Turn { code, words: w }
+}
+
+fn on_page(m: Move, s: Session, table: &mut [u64], at: usize) -> Answer
+    ensures { λ r. ⌜ r ≡ onPage m s (now (table .entry)) at .answer ⌝ }
+    ensures { λ _. ⌜ now (table .exit) ≡ onPage m s (now (table .entry)) at .table ⌝ }
+{
+    let before = table::load(&table[..], at);
+    let turn = on_words(m, s, table.len(), at, before);
+    let code = turn.code;
+    let after = turn.words;
+    if code == codes::DONE {
+        table::store(table, at, after);
+    }
+    Answer { code, session: s }
+}
+
+pub fn write(s: Session, table: &mut [u64], at: usize, mark: u64) -> Answer
+    ensures { λ r. ⌜ r ≡ writeOut s (now (table .entry)) at mark .answer ⌝ }
+    ensures { λ _. ⌜ now (table .exit) ≡ writeOut s (now (table .entry)) at mark .table ⌝ }
+{
+    on_page(Move::Write { mark }, s, table, at)
+}
+
+pub fn add(s: Session, table: &mut [u64], at: usize) -> Answer
+    ensures { λ r. ⌜ r ≡ addOut s (now (table .entry)) at .answer ⌝ }
+    ensures { λ _. ⌜ now (table .exit) ≡ addOut s (now (table .entry)) at .table ⌝ }
+{
+    on_page(Move::Add, s, table, at)
+}
+
+pub fn accept(s: Session, table: &mut [u64], at: usize) -> Answer
+    ensures { λ r. ⌜ r ≡ acceptOut s (now (table .entry)) at .answer ⌝ }
+    ensures { λ _. ⌜ now (table .exit) ≡ acceptOut s (now (table .entry)) at .table ⌝ }
+{
+    on_page(Move::Accept, s, table, at)
+}
+
+pub fn block(s: Session, table: &mut [u64], at: usize) -> Answer
+    ensures { λ r. ⌜ r ≡ blockOut s (now (table .entry)) at .answer ⌝ }
+    ensures { λ _. ⌜ now (table .exit) ≡ blockOut s (now (table .entry)) at .table ⌝ }
+{
+    on_page(Move::Block, s, table, at)
+}
+
+pub fn unblock(s: Session, table: &mut [u64], at: usize) -> Answer
+    ensures { λ r. ⌜ r ≡ unblockOut s (now (table .entry)) at .answer ⌝ }
+    ensures { λ _. ⌜ now (table .exit) ≡ unblockOut s (now (table .entry)) at .table ⌝ }
+{
+    on_page(Move::Unblock, s, table, at)
+}
+
+pub fn remove(s: Session, table: &mut [u64], at: usize) -> Answer
+    ensures { λ r. ⌜ r ≡ removeOut s (now (table .entry)) at .answer ⌝ }
+    ensures { λ _. ⌜ now (table .exit) ≡ removeOut s (now (table .entry)) at .table ⌝ }
+{
+    on_page(Move::Remove, s, table, at)
+}
+
+// ---- track
+
+fn track_code(s: Session, len: usize) -> u64
+    ensures { λ r. ⌜ r ≡ trackCode s len ⌝ }
+{
+    let p = s.phase;
+    let comes = session::comes_in(p);
+    let gate = session::gate(s, len, comes.guest);
+    if gate != codes::DONE {
+        return gate;
+    }
+    if session::LAST_EPOCH <= s.tlb {
+        return codes::TLB_EPOCH_AT_LIMIT;
+    }
+    codes::DONE
+}
+
+// Tracking with all processors interrupted: no translation from before outlives it.
+pub fn track(s: Session, table: &mut [u64]) -> Answer
+    ensures { λ r. ⌜ r ≡ trackOut s (now (table .entry)) .answer ⌝ }
+    ensures { λ _. ⌜ now (table .exit) ≡ trackOut s (now (table .entry)) .table ⌝ }
+{
+    let code = track_code(s, table.len());
+    if code == codes::DONE {
+        let next = session::with_tlb(s, s.tlb + 1);
+        return session::finish(code, s, next, table, Sweep::Uncache);
+    }
+    Answer { code, session: s }
+}

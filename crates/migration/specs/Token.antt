@@ -1,0 +1,56 @@
+-- The start token.
+use mathlib.Core.Bool.{cond, not, _||_}
+use mathlib.Core.List.{List, [], _∷_}
+use Prim.Native.Nat.{ℕ}
+use lib.Dec.{eqb}
+use lib.ListN.{length}
+use Rattle.words.specs.Codes as codes
+use Rattle.refusals.specs.Refusals.{_gives_}
+use Rattle.page.specs.Page.{gives53, gives54}
+use Rattle.table.specs.Table.{pageCount, lowest, some}
+use Rattle.session.specs.Session.{withPhase}
+use Rattle.session.specs.Formed.{gated, busy}
+use Rattle.session.specs.declared.Phase.the-variants.{Blackout, Done}
+use Rattle.session.specs.declared.Session.{Session}
+use Rattle.migration.specs.declared.token.Token.{Token}
+use Rattle.migration.specs.declared.token.Token.the-variants.{Granted, Refused, InTheWay}
+use Rattle.migration.specs.declared.token.TokenAnswer.{TokenAnswer}
+
+-- document 01's numbers for each case: the code, and the page, which is 0 but for 53 and 54
+abbrev pub tokenNumber : Token → ℕ
+tokenNumber Granted = codes.done
+tokenNumber (Refused code) = code
+tokenNumber (InTheWay code page) = code
+
+abbrev pub tokenPage : Token → ℕ
+tokenPage Granted = 0
+tokenPage (Refused code) = 0
+tokenPage (InTheWay code page) = page
+
+-- 43, 52, 53, 54
+unfoldable pub tokenCode : Session → List ℕ → ℕ
+tokenCode s t =
+    gated s (length t) (Blackout ∷ [])
+    (busy s gives codes.operandBusy
+    ∷ not (s .check .complete) gives codes.memScanDcheckNotDone
+    ∷ some gives53 t gives codes.exportedDirtyPagesRemain
+    ∷ some gives54 t gives codes.unexportedMemoryRemains
+    ∷ [])
+
+-- 53 and 54 each have the lowest such page
+unfoldable pub inTheWay : ℕ → List ℕ → ℕ
+inTheWay code t =
+    cond (eqb code codes.exportedDirtyPagesRemain) (lowest gives53 (pageCount t) 0 t)
+    (cond (eqb code codes.unexportedMemoryRemains) (lowest gives54 (pageCount t) 0 t) 0)
+
+-- the case that stands for a code
+unfoldable pub tokenFor : ℕ → List ℕ → Token
+tokenFor code t =
+    cond (eqb code codes.done) Granted
+    (cond (eqb code codes.exportedDirtyPagesRemain || eqb code codes.unexportedMemoryRemains) (InTheWay code (inTheWay code t))
+    (Refused code))
+
+-- Done where it is granted; the table stays
+unfoldable pub tokenOut : Session → List ℕ → TokenAnswer
+tokenOut s t =
+    record { token = tokenFor (tokenCode s t) t; session = cond (eqb (tokenCode s t) codes.done) (withPhase s Done) s }

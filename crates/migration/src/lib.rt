@@ -1,0 +1,132 @@
+// The session calls, and the scans' reset.
+ghost use mathlib.Core.Path.{_≡_};
+ghost use Rattle.migration.specs.Migration.{startCode, startOut, pauseCode, pauseOut, abortCode, abortOut};
+ghost use Rattle.migration.specs.Migration.{newEpochCode, newEpochOut, resetCode, resetOut};
+use page::queries::Sought;
+use page::sweeps::Sweep;
+use session::Answer;
+use session::Phase;
+use session::Session;
+use words::codes;
+
+pub mod token;
+
+fn start_code(s: Session, table: &[u64]) -> u64
+    ensures { λ r. ⌜ r ≡ startCode s (now (table .entry)) ⌝ }
+{
+    let p = s.phase;
+    let comes = session::comes_in(p);
+    let gate = session::gate(s, table.len(), comes.idle);
+    if gate != codes::DONE {
+        return gate;
+    }
+    if table::has(table, Sought::Unstartable) {
+        return codes::EPT_ENTRY_STATE_INCORRECT;
+    }
+    codes::DONE
+}
+
+pub fn start(s: Session, table: &mut [u64]) -> Answer
+    ensures { λ r. ⌜ r ≡ startOut s (now (table .entry)) .answer ⌝ }
+    ensures { λ _. ⌜ now (table .exit) ≡ startOut s (now (table .entry)) .table ⌝ }
+{
+    let code = start_code(s, &table[..]);
+    let next = session::begin(s, Phase::Live, 1);
+    session::finish(code, s, next, table, Sweep::Start)
+}
+
+fn pause_code(s: Session, table: &[u64]) -> u64
+    ensures { λ r. ⌜ r ≡ pauseCode s (now (table .entry)) ⌝ }
+{
+    let p = s.phase;
+    let comes = session::comes_in(p);
+    let gate = session::gate(s, table.len(), comes.live);
+    if gate != codes::DONE {
+        return gate;
+    }
+    let busy = session::is_busy(s);
+    let blocked = table::has(table, Sought::Blocked);
+    if blocked {
+        return codes::BLOCKED_MEMORY_EXISTS;
+    }
+    if busy {
+        return codes::OPERAND_BUSY;
+    }
+    codes::DONE
+}
+
+pub fn pause(s: Session, table: &mut [u64]) -> Answer
+    ensures { λ r. ⌜ r ≡ pauseOut s (now (table .entry)) .answer ⌝ }
+    ensures { λ _. ⌜ now (table .exit) ≡ pauseOut s (now (table .entry)) .table ⌝ }
+{
+    let code = pause_code(s, &table[..]);
+    let next = session::with_phase(s, Phase::Blackout);
+    session::finish(code, s, next, table, Sweep::Uncache)
+}
+
+fn abort_code(s: Session, table: &[u64]) -> u64
+    ensures { λ r. ⌜ r ≡ abortCode s (now (table .entry)) ⌝ }
+{
+    let p = s.phase;
+    let comes = session::comes_in(p);
+    session::gate(s, table.len(), comes.moving)
+}
+
+pub fn abort(s: Session, table: &mut [u64]) -> Answer
+    ensures { λ r. ⌜ r ≡ abortOut s (now (table .entry)) .answer ⌝ }
+    ensures { λ _. ⌜ now (table .exit) ≡ abortOut s (now (table .entry)) .table ⌝ }
+{
+    let code = abort_code(s, &table[..]);
+    let next = session::begin(s, Phase::Idle, 0);
+    session::finish(code, s, next, table, Sweep::Abort)
+}
+
+fn new_epoch_code(s: Session, table: &[u64]) -> u64
+    ensures { λ r. ⌜ r ≡ newEpochCode s (now (table .entry)) ⌝ }
+{
+    let p = s.phase;
+    let comes = session::comes_in(p);
+    let gate = session::gate(s, table.len(), comes.moving);
+    if gate != codes::DONE {
+        return gate;
+    }
+    let busy = session::is_busy(s);
+    let last = session::LAST_EPOCH <= s.epoch;
+    if busy {
+        return codes::OPERAND_BUSY;
+    }
+    if last {
+        return codes::MIGRATION_EPOCH_OVERFLOW;
+    }
+    codes::DONE
+}
+
+pub fn new_epoch(s: Session, table: &[u64]) -> Answer
+    ensures { λ r. ⌜ r ≡ newEpochOut s (now (table .entry)) .answer ⌝ }
+{
+    let code = new_epoch_code(s, table);
+    if code != codes::DONE {
+        return Answer { code, session: s };
+    }
+    let session = session::with_epoch(s, s.epoch + 1);
+    Answer { code, session }
+}
+
+fn reset_code(s: Session, table: &[u64]) -> u64
+    ensures { λ r. ⌜ r ≡ resetCode s (now (table .entry)) ⌝ }
+{
+    let p = s.phase;
+    let comes = session::comes_in(p);
+    session::gate(s, table.len(), comes.moving)
+}
+
+pub fn reset(s: Session, table: &[u64]) -> Answer
+    ensures { λ r. ⌜ r ≡ resetOut s (now (table .entry)) .answer ⌝ }
+{
+    let code = reset_code(s, table);
+    if code != codes::DONE {
+        return Answer { code, session: s };
+    }
+    let session = session::reset_check(s);
+    Answer { code, session }
+}

@@ -1,0 +1,21 @@
+-- The definition's fields, with the check and the streams that the two functions give.
+use borrow.Author.Needs.{needs}
+use Rattle.session.proofs.new_session.Statement.{statement}
+use Rattle.session.proofs.new_session.Tie as tie
+
+no-check-requires : tie.Need-no-check-requires
+no-check-requires c κs = search needs
+
+resting-requires : tie.Need-resting-requires
+resting-requires c κs = search needs
+
+returns : tie.Need-returns
+returns c = rw (c .before .no-check .ensures, c .resting .ensures)
+
+pub new-session-spec : {M : Type 1} → statement M
+new-session-spec =
+    tie.close
+    (tie.spec
+    no-check-requires
+    resting-requires
+    returns)

@@ -1,0 +1,79 @@
+-- The session: what New makes, and sessions made from others.
+use mathlib.Core.Bool.{Bool, false, _||_}
+use mathlib.Core.List.{List, [], _∷_}
+use Prim.Native.Nat.{ℕ}
+use lib.Dec.{eqb}
+use lib.ListN.{replicate}
+use Rattle.session.specs.declared.Phase.{Phase}
+use Rattle.session.specs.declared.Phase.the-variants.{Idle, Live, Blackout, Done}
+use Rattle.session.specs.declared.Check.{Check}
+use Rattle.session.specs.declared.Session.{Session}
+use Rattle.session.specs.declared.Comes.{Comes}
+use Rattle.session.specs.declared.streams.Stream.{Stream}
+use Rattle.session.specs.declared.streams.Run.the-variants.{AtRest}
+
+-- ---- phases
+
+-- the C side's numbers
+abbrev pub phaseNumber : Phase → ℕ
+phaseNumber Idle = 0
+phaseNumber Live = 1
+phaseNumber Blackout = 2
+phaseNumber Done = 3
+
+abbrev pub isIn : List Phase → Phase → Bool
+isIn [] p = false
+isIn (q ∷ l) p = eqb (phaseNumber p) (phaseNumber q) || isIn l p
+
+abbrev pub guest : List Phase
+guest = Idle ∷ Live ∷ []
+
+abbrev pub moving : List Phase
+moving = Live ∷ Blackout ∷ []
+
+abbrev pub comesIn : Phase → Comes
+comesIn p =
+    record { guest = isIn guest p; idle = isIn (Idle ∷ []) p; live = isIn (Live ∷ []) p; blackout = isIn (Blackout ∷ []) p; moving = isIn moving p }
+
+-- ---- sessions
+
+-- page 0, neither complete nor failed
+abbrev pub unchecked : Check
+unchecked = record { place = 0; complete = false; failed = false }
+
+abbrev pub resting : Stream
+resting = record { run = AtRest }
+
+-- the session has eight places for streams, whatever N is
+abbrev pub streamPlaces : ℕ
+streamPlaces = 8
+
+abbrev pub atRest : List Stream
+atRest = replicate streamPlaces resting
+
+-- New: Idle, TLB epoch 1, migration epoch 0, check at page 0, neither complete nor failed, streams at rest
+abbrev pub fresh : ℕ → ℕ → Session
+fresh pages created =
+    record { phase = Idle; pages = pages; tlb = 1; epoch = 0; created = created; check = unchecked; streams = atRest }
+
+-- start and abort: check reset, streams at rest
+abbrev pub begun : Session → Phase → ℕ → Session
+begun s phase epoch =
+    record { phase = phase; pages = s .pages; tlb = s .tlb; epoch = epoch; created = s .created; check = unchecked; streams = atRest }
+
+-- a session with another value in one place, and the rest as it was
+abbrev pub withPhase : Session → Phase → Session
+withPhase s phase =
+    record { phase = phase; pages = s .pages; tlb = s .tlb; epoch = s .epoch; created = s .created; check = s .check; streams = s .streams }
+
+abbrev pub withTlb : Session → ℕ → Session
+withTlb s tlb =
+    record { phase = s .phase; pages = s .pages; tlb = tlb; epoch = s .epoch; created = s .created; check = s .check; streams = s .streams }
+
+abbrev pub withEpoch : Session → ℕ → Session
+withEpoch s epoch =
+    record { phase = s .phase; pages = s .pages; tlb = s .tlb; epoch = epoch; created = s .created; check = s .check; streams = s .streams }
+
+abbrev pub withCheck : Session → Check → Session
+withCheck s check =
+    record { phase = s .phase; pages = s .pages; tlb = s .tlb; epoch = s .epoch; created = s .created; check = check; streams = s .streams }

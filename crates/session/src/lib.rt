@@ -1,0 +1,255 @@
+// The session: what a bench knows beside its table, when it is well-formed, and the gate that every call but New passes first.
+ghost use mathlib.Core.Path.{_≡_};
+ghost use Rattle.session.specs.Session.{comesIn, unchecked, atRest, withPhase, withEpoch, withTlb, withCheck, begun, fresh};
+ghost use Rattle.page.specs.Sweeps.{sweptBy};
+ghost use Rattle.session.specs.Outcome.{answeredBy};
+ghost use Rattle.session.specs.Formed.{formedNumbers, formed, gateCode, busy};
+
+pub mod streams;
+
+use crate::streams::Asked;
+use crate::streams::STREAMS;
+use crate::streams::Stream;
+use page::sweeps::Sweep;
+use words::codes;
+
+pub enum Phase {
+    Idle,
+    Live,
+    Blackout,
+    Done,
+}
+
+// How far the check has come.
+pub struct Check {
+    pub place: usize,
+    pub complete: bool,
+    pub failed: bool,
+}
+
+pub struct Session {
+    pub phase: Phase,
+    pub pages: usize,
+    // The TLB epoch.
+    pub tlb: u64,
+    // The migration epoch.
+    pub epoch: u64,
+    // How many streams were created; one of them is for the lists' own traffic, so that one fewer is usable.
+    pub created: u64,
+    pub check: Check,
+    pub streams: [Stream; STREAMS],
+}
+
+// What a call answers that has no numbers of its own.
+pub struct Answer {
+    pub code: u64,
+    pub session: Session,
+}
+
+// Both epochs stop here.
+pub const LAST_EPOCH: u64 = 65535;
+
+pub const FEWEST_CREATED: u64 = 2;
+
+pub const MOST_CREATED: u64 = 9;
+
+// The groups of phases in which calls come.
+pub struct Comes {
+    pub guest: bool,
+    pub idle: bool,
+    pub live: bool,
+    pub blackout: bool,
+    pub moving: bool,
+}
+
+pub fn comes_in(p: Phase) -> Comes
+    ensures { λ r. ⌜ r ≡ comesIn p ⌝ }
+{
+    match p {
+        Phase::Idle => Comes {
+            guest: true,
+            idle: true,
+            live: false,
+            blackout: false,
+            moving: false,
+        },
+        Phase::Live => Comes {
+            guest: true,
+            idle: false,
+            live: true,
+            blackout: false,
+            moving: true,
+        },
+        Phase::Blackout => Comes {
+            guest: false,
+            idle: false,
+            live: false,
+            blackout: true,
+            moving: true,
+        },
+        Phase::Done => Comes {
+            guest: false,
+            idle: false,
+            live: false,
+            blackout: false,
+            moving: false,
+        },
+    }
+}
+
+// Every number is in its range, and the check's progress makes sense.
+fn has_formed_numbers(s: Session) -> bool
+    ensures { λ r. ⌜ r ≡ formedNumbers s ⌝ }
+{
+    let p = s.phase;
+    let comes = comes_in(p);
+    let place = s.check.place;
+    let complete = s.check.complete;
+    let failed = s.check.failed;
+    ((1 <= s.pages) & (s.pages <= table::MOST_PAGES))
+        & ((1 <= s.tlb) & (s.tlb <= LAST_EPOCH))
+        & (!comes.idle | (s.epoch == 0))
+        & (comes.idle | ((1 <= s.epoch) & (s.epoch <= LAST_EPOCH)))
+        & ((FEWEST_CREATED <= s.created) & (s.created <= MOST_CREATED))
+        & (place <= s.pages)
+        & (!complete | (place == s.pages))
+        & !(complete & failed)
+}
+
+// The table is of a legal length and the session's, and the session is well-formed.
+pub fn is_formed(s: Session, len: usize) -> bool
+    ensures { λ r. ⌜ r ≡ formed s len ⌝ }
+{
+    let legal = table::is_legal(len);
+    let ours = len / 2 == s.pages;
+    let numbers = has_formed_numbers(s);
+    let streams = streams::all_are(s, Asked::Formed);
+    legal & ours & numbers & streams
+}
+
+// 40; 41 if the call does not come in this phase; else 0.
+pub fn gate(s: Session, len: usize, comes: bool) -> u64
+    ensures { λ r. ⌜ r ≡ gateCode s len comes ⌝ }
+{
+    let formed = is_formed(s, len);
+    if !formed {
+        return codes::MALFORMED;
+    }
+    if !comes {
+        return codes::OP_STATE_INCORRECT;
+    }
+    codes::DONE
+}
+
+// Some stream is interrupted.
+pub fn is_busy(s: Session) -> bool
+    ensures { λ r. ⌜ r ≡ busy s ⌝ }
+{
+    !streams::all_are(s, Asked::AtRest)
+}
+
+// ---- sessions made from others
+
+// A check that has not begun.
+fn no_check() -> Check
+    ensures { λ r. ⌜ r ≡ unchecked ⌝ }
+{
+    Check {
+        place: 0,
+        complete: false,
+        failed: false,
+    }
+}
+
+// What New makes.
+pub fn new_session(pages: usize, created: u64) -> Session
+    ensures { λ r. ⌜ r ≡ fresh pages created ⌝ }
+{
+    let check = no_check();
+    let streams = streams::resting();
+    Session {
+        phase: Phase::Idle,
+        pages,
+        tlb: 1,
+        epoch: 0,
+        created,
+        check,
+        streams,
+    }
+}
+
+// Where a migration begins, and where one that is given up ends: with no check and with streams at rest.
+pub fn begin(s: Session, phase: Phase, epoch: u64) -> Session
+    ensures { λ r. ⌜ r ≡ begun s phase epoch ⌝ }
+{
+    let check = no_check();
+    let streams = streams::resting();
+    Session {
+        phase,
+        pages: s.pages,
+        tlb: s.tlb,
+        epoch,
+        created: s.created,
+        check,
+        streams,
+    }
+}
+
+pub fn with_phase(s: Session, phase: Phase) -> Session
+    ensures { λ r. ⌜ r ≡ withPhase s phase ⌝ }
+{
+    let check = s.check;
+    let streams = s.streams;
+    Session {
+        phase,
+        pages: s.pages,
+        tlb: s.tlb,
+        epoch: s.epoch,
+        created: s.created,
+        check,
+        streams,
+    }
+}
+
+pub fn with_tlb(s: Session, tlb: u64) -> Session
+    ensures { λ r. ⌜ r ≡ withTlb s tlb ⌝ }
+{
+    let mut next = s;
+    next.tlb = tlb;
+    next
+}
+
+pub fn with_epoch(s: Session, epoch: u64) -> Session
+    ensures { λ r. ⌜ r ≡ withEpoch s epoch ⌝ }
+{
+    let mut next = s;
+    next.epoch = epoch;
+    next
+}
+
+// The check begins anew.
+pub fn reset_check(s: Session) -> Session
+    ensures { λ r. ⌜ r ≡ withCheck s unchecked ⌝ }
+{
+    let check = no_check();
+    let mut next = s;
+    next.check = check;
+    next
+}
+
+// ---- the end of a call
+
+// With code 0 every page is moved and the next session comes back; with any other code, everything as it came.
+pub fn finish(code: u64, s: Session, next: Session, table: &mut [u64], k: Sweep) -> Answer
+    ensures { λ r. ⌜ r ≡ answeredBy (sweptBy k) code s next (now (table .entry)) .answer ⌝ }
+    ensures { λ _. ⌜ now (table .exit) ≡ answeredBy (sweptBy k) code s next (now (table .entry)) .table ⌝ }
+{
+    if code != codes::DONE {
+        return Answer { code, session: s };
+    }
+    table::sweep_all(table, k);
+    Answer {
+        code,
+        session: next,
+    }
+}

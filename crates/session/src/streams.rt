@@ -1,0 +1,94 @@
+// The migration streams of a session: eight places, whatever the number of created ones.
+ghost use mathlib.Core.Path.{_≡_};
+ghost use Rattle.session.specs.Session.{atRest, streamPlaces};
+ghost use Rattle.session.specs.Formed.{runFormed, runResting, runIs, streamIs, allBelow};
+use crate::Session;
+
+// What a stream is doing. An interrupted export has taken the entries before `next`, of 0 to `last`.
+pub enum Run {
+    AtRest,
+    Interrupted {
+        next: u64,
+        last: u64,
+        errors: u64,
+        // Data pages so far.
+        pages: u64,
+    },
+}
+
+pub struct Stream {
+    pub run: Run,
+}
+
+pub const STREAMS: usize = 8;
+
+// The last entry that a list can have.
+pub const LAST_ENTRY: u64 = 511;
+
+pub fn resting() -> [Stream; STREAMS]
+    ensures { λ r. ⌜ r ≡ atRest ⌝ }
+{
+    [Stream { run: Run::AtRest }; STREAMS]
+}
+
+// `may`: a stream in this place may be interrupted.
+fn is_formed(run: Run, may: bool) -> bool
+    ensures { λ r. ⌜ r ≡ runFormed may run ⌝ }
+{
+    match run {
+        Run::AtRest => true,
+        Run::Interrupted {
+            next,
+            last,
+            errors,
+            pages,
+        } => { may & (next <= last) & (last <= LAST_ENTRY) & (errors <= next) & (pages <= next) }
+    }
+}
+
+fn is_resting(run: Run) -> bool
+    ensures { λ r. ⌜ r ≡ runResting run ⌝ }
+{
+    match run {
+        Run::AtRest => true,
+        Run::Interrupted {
+            next: _,
+            last: _,
+            errors: _,
+            pages: _,
+        } => false,
+    }
+}
+
+// What can be asked of every stream.
+pub enum Asked {
+    Formed,
+    AtRest,
+}
+
+fn is_so(k: Asked, run: Run, may: bool) -> bool
+    ensures { λ r. ⌜ r ≡ runIs k may run ⌝ }
+{
+    match k {
+        Asked::Formed => is_formed(run, may),
+        Asked::AtRest => is_resting(run),
+    }
+}
+
+pub fn all_are(s: Session, k: Asked) -> bool
+    ensures { λ r. ⌜ r ≡ allBelow (streamIs k s) streamPlaces ⌝ }
+{
+    let p = s.phase;
+    let comes = crate::comes_in(p);
+    let mut all = true;
+    let mut i: usize = 0;
+    while i < STREAMS {
+        let stream = s.streams[i];
+        let run = stream.run;
+        let may = comes.moving & (i as u64 + 1 < s.created);
+        let this = is_so(k, run, may);
+        all = all & this;
+        i = i + 1;
+    }
+    all
+}

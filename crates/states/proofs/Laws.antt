@@ -1,0 +1,58 @@
+-- A state's number names it, and no other number does.
+use mathlib.Core.Path.{_≡_, refl, sym, ap, _∙_}
+use mathlib.Core.Bool.{Bool, true, false, cond, true≢false}
+use mathlib.Core.List.{List, [], _∷_}
+use Prim.Native.Nat.{ℕ, _^_, _<_}
+use lib.Dec.{eqb, lit<}
+use borrow.Author.Tests.{eqb-true}
+use Rattle.states.specs.States.{numberOf, plainStates, numbered, stateOf, same}
+use Rattle.states.specs.declared.State.{State}
+use Rattle.states.specs.declared.State.the-variants.{Free, Blocked, Pending, PendingBlocked, Mapped, Exported, ExportedModified, ExportedBlocked, ExportedRemoved, PendingExported, PendingExportedModified, PendingExportedBlocked, Strange}
+
+pub number-lt : (s : State) → numberOf s < 2 ^ 8
+number-lt Free = lit< tt
+number-lt Blocked = lit< tt
+number-lt Pending = lit< tt
+number-lt PendingBlocked = lit< tt
+number-lt Mapped = lit< tt
+number-lt Exported = lit< tt
+number-lt ExportedModified = lit< tt
+number-lt ExportedBlocked = lit< tt
+number-lt ExportedRemoved = lit< tt
+number-lt PendingExported = lit< tt
+number-lt PendingExportedModified = lit< tt
+number-lt PendingExportedBlocked = lit< tt
+number-lt Strange = lit< tt
+
+pub state-number : (s : State) → stateOf (numberOf s) ≡ s
+unfolding stateOf
+state-number Free = refl
+state-number Blocked = refl
+state-number Pending = refl
+state-number PendingBlocked = refl
+state-number Mapped = refl
+state-number Exported = refl
+state-number ExportedModified = refl
+state-number ExportedBlocked = refl
+state-number ExportedRemoved = refl
+state-number PendingExported = refl
+state-number PendingExportedModified = refl
+state-number PendingExportedBlocked = refl
+state-number Strange = refl
+
+numbered-number : (l : List State) (n : ℕ) → same (numbered l n) Strange ≡ false → numberOf (numbered l n) ≡ n
+numbered-number [] n = λ e. absurd (true≢false e)
+numbered-number (s ∷ l) n = go (eqb n (numberOf s)) refl (numbered-number l n)
+  where
+    go : (b : Bool) → eqb n (numberOf s) ≡ b → (same (numbered l n) Strange ≡ false → numberOf (numbered l n) ≡ n) → same (cond b s (numbered l n)) Strange ≡ false → numberOf (cond b s (numbered l n)) ≡ n
+    go true q f x = sym (eqb-true n (numberOf s) q)
+    go false q f x = f x
+
+-- a number that names a state is that state's
+pub number-state : (n : ℕ) → same (stateOf n) Strange ≡ false → numberOf (stateOf n) ≡ n
+unfolding stateOf
+number-state n e = numbered-number plainStates n e
+
+-- a state that is as good as Strange is Strange
+pub strange-same : (s : State) → same s Strange ≡ true → s ≡ Strange
+strange-same s e = sym (state-number s) ∙ ap stateOf (eqb-true _ _ e) ∙ state-number Strange

@@ -1,0 +1,141 @@
+-- Pages of a table: what is read after words were put, what a sweep makes of each page, and what the search for the lowest page says of all of them.
+use mathlib.Core.Path.{_≡_, refl, sym, ap, _∙_}
+use mathlib.Core.Logic.{⊎-elim}
+use mathlib.Core.Bool.{Bool, true, false, cond}
+use mathlib.Core.List.{List}
+use Prim.Native.Nat.{ℕ, zero, suc, _+_, _-_, _*_, _≤_, _<_}
+use native.Mathlib.Omega.{arith}
+use native.Mathlib.Numerals.{add-one}
+use native.Mathlib.Nat.{eq-or-lt-of-le, le-of-suc-le-suc}
+use lib.Dec.{ltb}
+use lib.ListN.{length, set, length-set}
+use lib.Seq.{getD-set-same, getD-set-other}
+use borrow.Author.Tests.{lt-ltb, le-ltb, ltb-true, ltb-false}
+use Rattle.page.specs.Page.{pageOf, written}
+use Rattle.page.specs.Sweeps.{unlessStrange, sweptWords}
+use Rattle.page.specs.declared.Page.{Page}
+use Rattle.page.specs.declared.records.PageWords.{PageWords}
+use Rattle.page.proofs.Laws.{Becomes, page-becomes}
+use Rattle.table.specs.Table.{pageCount, wordsAt, pageAt, putAt, sweepOf, lowest, some, Lowest}
+
+-- ---- words that were put
+
+length-cond : (b : Bool) (x y : List ℕ) → length x ≡ length y → length (cond b x y) ≡ length y
+length-cond true x y e = e
+length-cond false x y e = refl
+
+pub put-length : (t : List ℕ) (i : ℕ) (w : PageWords) → length (putAt t i w) ≡ length t
+unfolding putAt
+put-length t i w = length-cond (ltb i (pageCount t)) (set (set t (2 * i) (w .word)) (2 * i + 1) (w .mark)) t (simp length-set)
+
+pub put-same : (t : List ℕ) (i : ℕ) (w : PageWords) → i < pageCount t → wordsAt (putAt t i w) i ≡ w
+unfolding wordsAt putAt
+put-same t i w h =
+    let v = set t (2 * i) (w .word) in
+    let in-t : 2 * i < length t = omega arith in
+    let in-v : 2 * i + 1 < length v = simp length-set (omega arith) in
+    let apart : 2 * i ≡ 2 * i + 1 → ⊥ = λ e. omega arith in
+    rw (lt-ltb i (pageCount t) h, length-set, length-set, lt-ltb i (pageCount t) h, getD-set-other v (2 * i + 1) (2 * i) (w .mark) 0 apart, getD-set-same t (2 * i) (w .word) 0 in-t, getD-set-same v (2 * i + 1) (w .mark) 0 in-v)
+
+pub put-other : (t : List ℕ) (i k : ℕ) (w : PageWords) → (k ≡ i → ⊥) → wordsAt (putAt t i w) k ≡ wordsAt t k
+unfolding wordsAt putAt
+put-other t i k w ne = go (ltb i (pageCount t))
+  where
+    go : (b : Bool) → wordsAt (cond b (set (set t (2 * i) (w .word)) (2 * i + 1) (w .mark)) t) k ≡ wordsAt t k
+    go true =
+        let v = set t (2 * i) (w .word) in
+        let a : 2 * k ≡ 2 * i + 1 → ⊥ = λ e. omega arith in
+        let b : 2 * k ≡ 2 * i → ⊥ = λ e. ne (omega arith) in
+        let c : 2 * k + 1 ≡ 2 * i + 1 → ⊥ = λ e. ne (omega arith) in
+        let d : 2 * k + 1 ≡ 2 * i → ⊥ = λ e. omega arith in
+        rw (length-set, length-set, getD-set-other v (2 * i + 1) (2 * k) (w .mark) 0 a, getD-set-other t (2 * i) (2 * k) (w .word) 0 b, getD-set-other v (2 * i + 1) (2 * k + 1) (w .mark) 0 c, getD-set-other t (2 * i) (2 * k + 1) (w .word) 0 d)
+    go false = refl
+
+-- ---- a sweep, for any move of a page's words
+
+module _ (f : PageWords → PageWords) (t : List ℕ) where
+  pub sweep-length : (n : ℕ) → length (sweepOf f n t) ≡ length t
+  sweep-length zero = refl
+  sweep-length (suc n) = put-length (sweepOf f n t) n (f (wordsAt (sweepOf f n t) n)) ∙ sweep-length n
+
+  -- a page that the sweep has not come to
+  pub sweep-ahead : (n k : ℕ) → n ≤ k → wordsAt (sweepOf f n t) k ≡ wordsAt t k
+  sweep-ahead zero k h = refl
+  sweep-ahead (suc n) k h =
+      put-other (sweepOf f n t) n k (f (wordsAt (sweepOf f n t) n)) (λ e. omega arith) ∙ sweep-ahead n k (omega arith)
+
+  -- and one that it has passed
+  pub sweep-at : (n k : ℕ) → n ≤ pageCount t → k < n → wordsAt (sweepOf f n t) k ≡ f (wordsAt t k)
+  sweep-at zero k m h = absurd (omega arith)
+  sweep-at (suc n) k m h =
+      let room : n < pageCount (sweepOf f n t) = rw (sweep-length n) (omega arith) in
+      ⊎-elim
+      (λ e. rw e (put-same (sweepOf f n t) n (f (wordsAt (sweepOf f n t) n)) room ∙ ap f (sweep-ahead n n (omega arith))))
+      (λ l. put-other (sweepOf f n t) n k (f (wordsAt (sweepOf f n t) n)) (λ e. omega arith) ∙ sweep-at n k (omega arith) l)
+      (eq-or-lt-of-le (le-of-suc-le-suc h))
+
+-- ---- the same for any move of a page: page k afterwards is the move of page k before
+
+pub page-sweep : (f : Page → Page) → ((p : Page) → Becomes p (unlessStrange f p)) → (t : List ℕ) (k : ℕ) → k < pageCount t → pageAt (sweepOf (sweptWords f) (pageCount t) t) k ≡ unlessStrange f (pageAt t k)
+page-sweep f g t k h =
+    ap pageOf (sweep-at (sweptWords f) t (pageCount t) k (omega arith) h) ∙ page-becomes (wordsAt t k) (unlessStrange f (pageAt t k)) (g (pageAt t k))
+
+pub page-put : (t : List ℕ) (i : ℕ) (q : Page) → i < pageCount t → Becomes (pageAt t i) q → pageAt (putAt t i (written (wordsAt t i) q)) i ≡ q
+page-put t i q h b = ap pageOf (put-same t i (written (wordsAt t i) q) h) ∙ page-becomes (wordsAt t i) q b
+
+-- ---- the lowest page of a kind
+
+pub lowest-found : (f : Page → Bool) (n i : ℕ) (t : List ℕ) → i < n → f (pageAt t i) ≡ true → lowest f (n - i) i t ≡ i
+lowest-found f n i t h e =
+    let more : n - i ≡ suc (n - (i + 1)) = omega arith in
+    rw (more, e)
+
+pub lowest-next : (f : Page → Bool) (n i : ℕ) (t : List ℕ) → i < n → f (pageAt t i) ≡ false → lowest f (n - i) i t ≡ lowest f (n - (i + 1)) (i + 1) t
+lowest-next f n i t h e =
+    let more : n - i ≡ suc (n - (i + 1)) = omega arith in
+    rw (more, e, add-one i)
+
+pub lowest-end : (f : Page → Bool) (n i : ℕ) (t : List ℕ) → n ≤ i → lowest f (n - i) i t ≡ i
+lowest-end f n i t h =
+    let none : n - i ≡ 0 = omega arith in
+    rw none
+
+module _ (f : Page → Bool) (t : List ℕ) where
+  -- below the lowest page there is none
+  pub lowest-first : (n i k : ℕ) → i ≤ k → k < lowest f n i t → f (pageAt t k) ≡ false
+  lowest-first zero i k a b = absurd (omega arith)
+  lowest-first (suc n) i k a b = go (f (pageAt t i)) refl b (λ x y. lowest-first n (suc i) k x y)
+    where
+      go : (c : Bool) → f (pageAt t i) ≡ c → k < cond c i (lowest f n (suc i) t) → (suc i ≤ k → k < lowest f n (suc i) t → f (pageAt t k) ≡ false) → f (pageAt t k) ≡ false
+      go true e x r = absurd (omega (arith, x))
+      go false e x r = ⊎-elim (λ q. ap (λ (j : ℕ). f (pageAt t j)) (sym q) ∙ e) (λ l. r l x) (eq-or-lt-of-le a)
+
+  pub lowest-hit : (n i : ℕ) → lowest f n i t < i + n → f (pageAt t (lowest f n i t)) ≡ true
+  lowest-hit zero i h = absurd (omega (arith, h))
+  lowest-hit (suc n) i h = go (f (pageAt t i)) refl h (λ x. lowest-hit n (suc i) x)
+    where
+      go : (c : Bool) → f (pageAt t i) ≡ c → cond c i (lowest f n (suc i) t) < i + suc n → (lowest f n (suc i) t < suc i + n → f (pageAt t (lowest f n (suc i) t)) ≡ true) → f (pageAt t (cond c i (lowest f n (suc i) t))) ≡ true
+      go true e x r = e
+      go false e x r = r (omega (arith, x))
+
+  pub lowest-none : (n i : ℕ) → ((k : ℕ) → i ≤ k → k < i + n → f (pageAt t k) ≡ false) → lowest f n i t ≡ i + n
+  lowest-none zero i h = omega arith
+  lowest-none (suc n) i h =
+      rw (h i (omega arith) (omega arith)) (lowest-none n (suc i) (λ k a b. h k (omega arith) (omega arith)) ∙ omega arith)
+
+  -- no page, said of every page
+  pub some-none : some f t ≡ false → (k : ℕ) → k < pageCount t → f (pageAt t k) ≡ false
+  unfolding some
+  some-none e k h = lowest-first (pageCount t) 0 k (omega arith) (omega (arith, h, ltb-false (lowest f (pageCount t) 0 t) (pageCount t) e))
+
+  pub none-some : ((k : ℕ) → k < pageCount t → f (pageAt t k) ≡ false) → some f t ≡ false
+  unfolding some
+  none-some h =
+      let end : lowest f (pageCount t) 0 t ≡ 0 + pageCount t = lowest-none (pageCount t) 0 (λ k a b. h k (omega (arith, b))) in
+      le-ltb (lowest f (pageCount t) 0 t) (pageCount t) (omega arith)
+
+pub some-lowest : (f : Page → Bool) (t : List ℕ) → some f t ≡ true → Lowest f t (lowest f (pageCount t) 0 t)
+unfolding some
+some-lowest f t e =
+    let inside : lowest f (pageCount t) 0 t < pageCount t = ltb-true _ _ e in
+    record { inside = inside; holds = lowest-hit f t (pageCount t) 0 (omega arith); first = λ k h. lowest-first f t (pageCount t) 0 k (omega arith) h }

@@ -1,0 +1,63 @@
+-- What is left to search gives what the whole search gives: each round either ends with the page it is at or goes on to the next.
+use borrow.Author.Needs.{needs}
+use Rattle.table.specs.Table.{lowest}
+use Rattle.table.proofs.Laws.{lowest-found, lowest-next, lowest-end}
+use Rattle.page.specs.Page.{sought}
+use lib.ListN.{length}
+use native.Mathlib.Nat.{sub-zero}
+use native.Mathlib.Omega.{arith}
+use mathlib.Core.Path.{_≡_, sym, _∙_}
+use Prim.Native.Nat.{_≤_, _-_, _/_}
+use Rattle.table.proofs.find.Statement.{statement}
+use Rattle.table.proofs.find.Tie as tie
+
+abbrev Inv-loop : tie.InvT-loop
+Inv-loop table k n i₀ i = (i ≤ n) × (lowest (sought k) (n - i) i table ≡ lowest (sought k) n 0 table)
+
+abbrev μ-loop : tie.MeasureT-loop
+μ-loop table k n i₀ i = n - i
+
+loop-holds : tie.Need-loop-holds Inv-loop μ-loop
+loop-holds c = (search needs, rw sub-zero)
+
+load-requires : tie.Need-load-requires Inv-loop μ-loop
+load-requires c κs = search needs
+
+page-of-requires : tie.Need-page-of-requires Inv-loop μ-loop
+page-of-requires c κs = search needs
+
+is-sought-requires : tie.Need-is-sought-requires Inv-loop μ-loop
+is-sought-requires c κs = search needs
+
+returns : tie.Need-returns Inv-loop μ-loop
+returns c = sym (lowest-found _ _ _ _ (c .before .before .before .before .loop-test .taken) (rw (← c .before .before .before .load .ensures, ← c .before .before .page-of .ensures, ← c .before .is-sought .ensures) (c .if1 .taken))) ∙ c .before .before .before .before .before .loop .inv .1
+
+add-i : tie.Need-add-i Inv-loop μ-loop
+add-i c = search needs
+
+loop-less : tie.Need-loop-less Inv-loop μ-loop
+loop-less c = search needs
+
+loop-again : tie.Need-loop-again Inv-loop μ-loop
+loop-again c = (omega arith, sym (lowest-next _ _ _ _ (c .before .before .before .before .loop-test .taken) (rw (← c .before .before .before .load .ensures, ← c .before .before .page-of .ensures, ← c .before .is-sought .ensures) (c .if1 .left))) ∙ c .before .before .before .before .before .loop .inv .1)
+
+returns-2 : tie.Need-returns-2 Inv-loop μ-loop
+returns-2 c =
+    let end : c .before .loop .i ≡ length (c .before .before .before .args .table .now) / 2 = omega arith in
+    sym end ∙ sym (lowest-end _ _ _ _ (c .loop-test .left)) ∙ c .before .loop .inv .1
+
+pub find-spec : {M : Type 1} → statement M
+find-spec =
+    tie.close
+    (tie.spec
+    Inv-loop
+    μ-loop
+    loop-holds
+    load-requires
+    page-of-requires
+    is-sought-requires
+    returns
+    add-i
+    loop-less
+    loop-again
+    returns-2)
