@@ -9,6 +9,7 @@ use page::records::PageWords;
 use page::sweeps::Sweep;
 use session::Answer;
 use session::Session;
+use session::When;
 use words::codes;
 
 fn new_code(len: usize, created: u64) -> u64
@@ -151,9 +152,7 @@ pub fn remove(s: Session, table: &mut [u64], at: usize) -> Answer
 fn track_code(s: Session, len: usize) -> u64
     ensures { λ r. ⌜ r ≡ trackCode s len ⌝ }
 {
-    let p = s.phase;
-    let comes = session::comes_in(p);
-    let gate = session::gate(s, len, comes.guest);
+    let gate = session::gate(s, len, When::Guest);
     if gate != codes::DONE {
         return gate;
     }

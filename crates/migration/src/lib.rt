@@ -1,12 +1,13 @@
 // The session calls, and the scans' reset.
 ghost use mathlib.Core.Path.{_≡_};
-ghost use Rattle.migration.specs.Migration.{startCode, startOut, pauseCode, pauseOut, abortCode, abortOut};
-ghost use Rattle.migration.specs.Migration.{newEpochCode, newEpochOut, resetCode, resetOut};
+ghost use Rattle.migration.specs.Migration.{startCode, startOut, pauseCode, pauseOut, abortOut};
+ghost use Rattle.migration.specs.Migration.{newEpochCode, newEpochOut, resetOut};
 use page::queries::Sought;
 use page::sweeps::Sweep;
 use session::Answer;
 use session::Phase;
 use session::Session;
+use session::When;
 use words::codes;
 
 pub mod token;
@@ -14,9 +15,7 @@ pub mod token;
 fn start_code(s: Session, table: &[u64]) -> u64
     ensures { λ r. ⌜ r ≡ startCode s (now (table .entry)) ⌝ }
 {
-    let p = s.phase;
-    let comes = session::comes_in(p);
-    let gate = session::gate(s, table.len(), comes.idle);
+    let gate = session::gate(s, table.len(), When::Idle);
     if gate != codes::DONE {
         return gate;
     }
@@ -38,9 +37,7 @@ pub fn start(s: Session, table: &mut [u64]) -> Answer
 fn pause_code(s: Session, table: &[u64]) -> u64
     ensures { λ r. ⌜ r ≡ pauseCode s (now (table .entry)) ⌝ }
 {
-    let p = s.phase;
-    let comes = session::comes_in(p);
-    let gate = session::gate(s, table.len(), comes.live);
+    let gate = session::gate(s, table.len(), When::Live);
     if gate != codes::DONE {
         return gate;
     }
@@ -64,19 +61,11 @@ pub fn pause(s: Session, table: &mut [u64]) -> Answer
     session::finish(code, s, next, table, Sweep::Uncache)
 }
 
-fn abort_code(s: Session, table: &[u64]) -> u64
-    ensures { λ r. ⌜ r ≡ abortCode s (now (table .entry)) ⌝ }
-{
-    let p = s.phase;
-    let comes = session::comes_in(p);
-    session::gate(s, table.len(), comes.moving)
-}
-
 pub fn abort(s: Session, table: &mut [u64]) -> Answer
     ensures { λ r. ⌜ r ≡ abortOut s (now (table .entry)) .answer ⌝ }
     ensures { λ _. ⌜ now (table .exit) ≡ abortOut s (now (table .entry)) .table ⌝ }
 {
-    let code = abort_code(s, &table[..]);
+    let code = session::gate(s, table.len(), When::Moving);
     let next = session::begin(s, Phase::Idle, 0);
     session::finish(code, s, next, table, Sweep::Abort)
 }
@@ -84,9 +73,7 @@ pub fn abort(s: Session, table: &mut [u64]) -> Answer
 fn new_epoch_code(s: Session, table: &[u64]) -> u64
     ensures { λ r. ⌜ r ≡ newEpochCode s (now (table .entry)) ⌝ }
 {
-    let p = s.phase;
-    let comes = session::comes_in(p);
-    let gate = session::gate(s, table.len(), comes.moving);
+    let gate = session::gate(s, table.len(), When::Moving);
     if gate != codes::DONE {
         return gate;
     }
@@ -112,18 +99,10 @@ pub fn new_epoch(s: Session, table: &[u64]) -> Answer
     Answer { code, session }
 }
 
-fn reset_code(s: Session, table: &[u64]) -> u64
-    ensures { λ r. ⌜ r ≡ resetCode s (now (table .entry)) ⌝ }
-{
-    let p = s.phase;
-    let comes = session::comes_in(p);
-    session::gate(s, table.len(), comes.moving)
-}
-
 pub fn reset(s: Session, table: &[u64]) -> Answer
     ensures { λ r. ⌜ r ≡ resetOut s (now (table .entry)) .answer ⌝ }
 {
-    let code = reset_code(s, table);
+    let code = session::gate(s, table.len(), When::Moving);
     if code != codes::DONE {
         return Answer { code, session: s };
     }

@@ -4,6 +4,7 @@ ghost use Rattle.migration.specs.Token.{tokenNumber, tokenPage, tokenCod
 use page::queries::Sought;
 use session::Phase;
 use session::Session;
+use session::When;
 use words::codes;
 
 pub enum Token {
@@ -43,9 +44,7 @@ pub fn page_of(k: Token) -> usize
 fn token_code(s: Session, table: &[u64]) -> u64
     ensures { λ r. ⌜ r ≡ tokenCode s (now (table .entry)) ⌝ }
 {
-    let p = s.phase;
-    let comes = session::comes_in(p);
-    let gate = session::gate(s, table.len(), comes.blackout);
+    let gate = session::gate(s, table.len(), When::Blackout);
     if gate != codes::DONE {
         return gate;
     }

@@ -1,21 +1,21 @@
 -- What callers know of the gate, and of a session that has passed it. They use these laws, and not the text of `formed`.
 use mathlib.Core.Path.{_≡_, refl, ap}
 use mathlib.Core.Bool.{Bool, true, false, cond, not}
-use mathlib.Core.List.{List, _∷_}
+use mathlib.Core.List.{List, [], _∷_}
 use Prim.Native.Nat.{ℕ, _<_}
 use lib.Dec.{eqb}
 use Rattle.words.specs.Codes as codes
 use Rattle.refusals.specs.Refusals.{Test, _gives_, firstOf}
 use Rattle.refusals.proofs.Laws.{Passed, coded, passed, passed-code, Ends, once, ended, not-false}
 use Rattle.session.specs.Session.{isIn}
-use Rattle.session.specs.Formed.{formed, gateCode, gated}
+use Rattle.session.specs.Formed.{formed, gated}
 use Rattle.session.specs.Outcome.{outcome, answered}
 use Rattle.session.specs.declared.Phase.{Phase}
 use Rattle.session.specs.declared.Session.{Session}
 
 -- the gate's code goes before a call's own tests
-pub gate-first : (s : Session) (len : ℕ) (phases : List Phase) (l : List Test) → gated s len phases l ≡ cond (eqb (gateCode s len (isIn phases (s .phase))) 0) (firstOf l) (gateCode s len (isIn phases (s .phase)))
-unfolding gated gateCode
+pub gate-first : (s : Session) (len : ℕ) (phases : List Phase) (l : List Test) → gated s len phases l ≡ cond (eqb (gated s len phases []) 0) (firstOf l) (gated s len phases [])
+unfolding gated
 gate-first s len phases l = go (not (formed s len)) (not (isIn phases (s .phase)))
   where
     go : (a b : Bool) → cond a codes.malformed (cond b codes.opStateIncorrect (firstOf l)) ≡ cond (eqb (cond a codes.malformed (cond b codes.opStateIncorrect 0)) 0) (firstOf l) (cond a codes.malformed (cond b codes.opStateIncorrect 0))

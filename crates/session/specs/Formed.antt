@@ -89,11 +89,7 @@ busy s = not (allBelow (streamIs asked.AtRest s) streamPlaces)
 unfoldable pub formed : Session → ℕ → Bool
 formed s len = legal len && eqb (len / 2) (s .pages) && formedNumbers s && allBelow (streamIs asked.Formed s) streamPlaces
 
--- what every call but New tests first: 40, and 41 in a phase where it does not come
-unfoldable pub gateCode : Session → ℕ → Bool → ℕ
-gateCode s len comes = firstOf (not (formed s len) gives codes.malformed ∷ not comes gives codes.opStateIncorrect ∷ [])
-
--- the code of a call that comes in some phases and then has tests of its own
+-- the code of a call that comes in some phases and then has tests of its own: 40, 41, and the first of these
 unfoldable pub gated : Session → ℕ → List Phase → List Test → ℕ
 gated s len phases tests =
     firstOf (not (formed s len) gives codes.malformed ∷ not (isIn phases (s .phase)) gives codes.opStateIncorrect ∷ tests)

@@ -9,6 +9,8 @@ use Rattle.session.specs.declared.Phase.the-variants.{Idle, Live, Blacko
 use Rattle.session.specs.declared.Check.{Check}
 use Rattle.session.specs.declared.Session.{Session}
 use Rattle.session.specs.declared.Comes.{Comes}
+use Rattle.session.specs.declared.When.{When}
+use Rattle.session.specs.declared.When.the-variants as when
 use Rattle.session.specs.declared.streams.Stream.{Stream}
 use Rattle.session.specs.declared.streams.Run.the-variants.{AtRest}
 
@@ -30,6 +32,13 @@ guest = Idle ∷ Live ∷ []
 
 abbrev pub moving : List Phase
 moving = Live ∷ Blackout ∷ []
+
+abbrev pub phasesOf : When → List Phase
+phasesOf when.Guest = guest
+phasesOf when.Idle = Idle ∷ []
+phasesOf when.Live = Live ∷ []
+phasesOf when.Blackout = Blackout ∷ []
+phasesOf when.Moving = moving
 
 abbrev pub comesIn : Phase → Comes
 comesIn p =

@@ -1,9 +1,10 @@
 // The session: what a bench knows beside its table, when it is well-formed, and the gate that every call but New passes first.
 ghost use mathlib.Core.Path.{_≡_};
-ghost use Rattle.session.specs.Session.{comesIn, unchecked, atRest, withPhase, withEpoch, withTlb, withCheck, begun, fresh};
+ghost use mathlib.Core.List.{[]};
+ghost use Rattle.session.specs.Session.{isIn, phasesOf, comesIn, unchecked, atRest, withPhase, withEpoch, withTlb, withCheck, begun, fresh};
 ghost use Rattle.page.specs.Sweeps.{sweptBy};
 ghost use Rattle.session.specs.Outcome.{answeredBy};
-ghost use Rattle.session.specs.Formed.{formedNumbers, formed, gateCode, busy};
+ghost use Rattle.session.specs.Formed.{formedNumbers, formed, gated, busy};
 
 pub mod streams;
 
@@ -53,7 +54,7 @@ pub const FEWEST_CREATED: u64 = 2;
 
 pub const MOST_CREATED: u64 = 9;
 
-// The groups of phases in which calls come.
+// Which calls come in a phase.
 pub struct Comes {
     pub guest: bool,
     pub idle: bool,
@@ -127,11 +128,35 @@ pub fn is_formed(s: Session, len: usize) -> bool
     legal & ours & numbers & streams
 }
 
-// 40; 41 if the call does not come in this phase; else 0.
-pub fn gate(s: Session, len: usize, comes: bool) -> u64
-    ensures { λ r. ⌜ r ≡ gateCode s len comes ⌝ }
+// The phases in which a call comes.
+pub enum When {
+    Guest,
+    Idle,
+    Live,
+    Blackout,
+    Moving,
+}
+
+fn is_in(w: When, p: Phase) -> bool
+    ensures { λ r. ⌜ r ≡ isIn (phasesOf w) p ⌝ }
 {
+    let comes = comes_in(p);
+    match w {
+        When::Guest => comes.guest,
+        When::Idle => comes.idle,
+        When::Live => comes.live,
+        When::Blackout => comes.blackout,
+        When::Moving => comes.moving,
+    }
+}
+
+// 40; 41 if the call does not come in this phase; else 0.
+pub fn gate(s: Session, len: usize, w: When) -> u64
+    ensures { λ r. ⌜ r ≡ gated s len (phasesOf w) [] ⌝ }
+{
+    let p = s.phase;
     let formed = is_formed(s, len);
+    let comes = is_in(w, p);
     if !formed {
         return codes::MALFORMED;
     }

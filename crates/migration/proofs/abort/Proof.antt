@@ -1,11 +1,11 @@
--- The code, the next session and the end of the call are those of the definition.
+-- The code, which is the gate's, the next session and the end of the call are those of the definition.
 use borrow.Author.Needs.{needs}
-use Rattle.migration.specs.Migration.{abortOut}
+use Rattle.migration.specs.Migration.{abortOut, abortCode}
 use Rattle.migration.proofs.abort.Statement.{statement}
 use Rattle.migration.proofs.abort.Tie as tie
 
-abort-code-requires : tie.Need-abort-code-requires
-abort-code-requires c κs = search needs
+gate-requires : tie.Need-gate-requires
+gate-requires c κs = search needs
 
 begin-requires : tie.Need-begin-requires
 begin-requires c κs = search needs
@@ -17,14 +17,14 @@ same-length : tie.Need-same-length
 same-length c = search needs
 
 returns : tie.Need-returns
-unfolding abortOut
-returns c = rw (← c .before .before .before .before .before .abort-code .ensures, ← c .before .before .before .before .begin .ensures) (c .before .before .finish .ensures)
+unfolding abortOut abortCode
+returns c = rw (← c .before .before .before .before .before .gate .ensures, ← c .before .before .before .before .begin .ensures) (c .before .before .finish .ensures)
 
 pub abort-spec : {M : Type 1} → statement M
 abort-spec =
     tie.close
     (tie.spec
-    abort-code-requires
+    gate-requires
     begin-requires
     finish-requires
     same-length

@@ -3,41 +3,35 @@ use borrow.Author.Needs.{needs}
 use Rattle.migration.specs.Migration.{newEpochCode}
 use borrow.Author.Tests.{eq-eqb, ne-eqb}
 use Rattle.session.proofs.Laws.{gate-first}
-use mathlib.Core.Path.{ap}
-use Rattle.session.specs.declared.Comes.{Comes}
 use Rattle.migration.proofs.new_epoch_code.Statement.{statement}
 use Rattle.migration.proofs.new_epoch_code.Tie as tie
-
-comes-in-requires : tie.Need-comes-in-requires
-comes-in-requires c κs = search needs
 
 gate-requires : tie.Need-gate-requires
 gate-requires c κs = search needs
 
 returns : tie.Need-returns
 unfolding newEpochCode
-returns c = rw (gate-first, ← ap (λ (x : Comes). x .moving) (c .before .before .comes-in .ensures), ← c .before .gate .ensures, ne-eqb _ _ (c .if1 .taken))
+returns c = rw (gate-first, ← c .before .gate .ensures, ne-eqb _ _ (c .if1 .taken))
 
 is-busy-requires : tie.Need-is-busy-requires
 is-busy-requires c κs = search needs
 
 returns-2 : tie.Need-returns-2
 unfolding newEpochCode
-returns-2 c = rw (gate-first, ← ap (λ (x : Comes). x .moving) (c .before .before .before .before .before .comes-in .ensures), ← c .before .before .before .before .gate .ensures, eq-eqb _ _ (c .before .before .before .if1 .left), ← c .before .before .is-busy .ensures, c .if2 .taken)
+returns-2 c = rw (gate-first, ← c .before .before .before .before .gate .ensures, eq-eqb _ _ (c .before .before .before .if1 .left), ← c .before .before .is-busy .ensures, c .if2 .taken)
 
 returns-3 : tie.Need-returns-3
 unfolding newEpochCode
-returns-3 c = rw (gate-first, ← ap (λ (x : Comes). x .moving) (c .before .before .before .before .before .before .comes-in .ensures), ← c .before .before .before .before .before .gate .ensures, eq-eqb _ _ (c .before .before .before .before .if1 .left), ← c .before .before .before .is-busy .ensures, c .before .if2 .left, c .if3 .taken)
+returns-3 c = rw (gate-first, ← c .before .before .before .before .before .gate .ensures, eq-eqb _ _ (c .before .before .before .before .if1 .left), ← c .before .before .before .is-busy .ensures, c .before .if2 .left, c .if3 .taken)
 
 returns-4 : tie.Need-returns-4
 unfolding newEpochCode
-returns-4 c = rw (gate-first, ← ap (λ (x : Comes). x .moving) (c .before .before .before .before .before .before .comes-in .ensures), ← c .before .before .before .before .before .gate .ensures, eq-eqb _ _ (c .before .before .before .before .if1 .left), ← c .before .before .before .is-busy .ensures, c .before .if2 .left, c .if3 .left)
+returns-4 c = rw (gate-first, ← c .before .before .before .before .before .gate .ensures, eq-eqb _ _ (c .before .before .before .before .if1 .left), ← c .before .before .before .is-busy .ensures, c .before .if2 .left, c .if3 .left)
 
 pub new-epoch-code-spec : {M : Type 1} → statement M
 new-epoch-code-spec =
     tie.close
     (tie.spec
-    comes-in-requires
     gate-requires
     returns
     is-busy-requires

@@ -3,20 +3,15 @@ use borrow.Author.Needs.{needs}
 use Rattle.migration.specs.Migration.{pauseCode}
 use borrow.Author.Tests.{eq-eqb, ne-eqb}
 use Rattle.session.proofs.Laws.{gate-first}
-use mathlib.Core.Path.{ap}
-use Rattle.session.specs.declared.Comes.{Comes}
 use Rattle.migration.proofs.pause_code.Statement.{statement}
 use Rattle.migration.proofs.pause_code.Tie as tie
-
-comes-in-requires : tie.Need-comes-in-requires
-comes-in-requires c κs = search needs
 
 gate-requires : tie.Need-gate-requires
 gate-requires c κs = search needs
 
 returns : tie.Need-returns
 unfolding pauseCode
-returns c = rw (gate-first, ← ap (λ (x : Comes). x .live) (c .before .before .comes-in .ensures), ← c .before .gate .ensures, ne-eqb _ _ (c .if1 .taken))
+returns c = rw (gate-first, ← c .before .gate .ensures, ne-eqb _ _ (c .if1 .taken))
 
 is-busy-requires : tie.Need-is-busy-requires
 is-busy-requires c κs = search needs
@@ -26,21 +21,20 @@ has-requires c κs = search needs
 
 returns-2 : tie.Need-returns-2
 unfolding pauseCode
-returns-2 c = rw (gate-first, ← ap (λ (x : Comes). x .live) (c .before .before .before .before .before .comes-in .ensures), ← c .before .before .before .before .gate .ensures, eq-eqb _ _ (c .before .before .before .if1 .left), ← c .before .has .ensures, c .if2 .taken)
+returns-2 c = rw (gate-first, ← c .before .before .before .before .gate .ensures, eq-eqb _ _ (c .before .before .before .if1 .left), ← c .before .has .ensures, c .if2 .taken)
 
 returns-3 : tie.Need-returns-3
 unfolding pauseCode
-returns-3 c = rw (gate-first, ← ap (λ (x : Comes). x .live) (c .before .before .before .before .before .before .comes-in .ensures), ← c .before .before .before .before .before .gate .ensures, eq-eqb _ _ (c .before .before .before .before .if1 .left), ← c .before .before .has .ensures, ← c .before .before .before .is-busy .ensures, c .before .if2 .left, c .if3 .taken)
+returns-3 c = rw (gate-first, ← c .before .before .before .before .before .gate .ensures, eq-eqb _ _ (c .before .before .before .before .if1 .left), ← c .before .before .has .ensures, ← c .before .before .before .is-busy .ensures, c .before .if2 .left, c .if3 .taken)
 
 returns-4 : tie.Need-returns-4
 unfolding pauseCode
-returns-4 c = rw (gate-first, ← ap (λ (x : Comes). x .live) (c .before .before .before .before .before .before .comes-in .ensures), ← c .before .before .before .before .before .gate .ensures, eq-eqb _ _ (c .before .before .before .before .if1 .left), ← c .before .before .has .ensures, ← c .before .before .before .is-busy .ensures, c .before .if2 .left, c .if3 .left)
+returns-4 c = rw (gate-first, ← c .before .before .before .before .before .gate .ensures, eq-eqb _ _ (c .before .before .before .before .if1 .left), ← c .before .before .has .ensures, ← c .before .before .before .is-busy .ensures, c .before .if2 .left, c .if3 .left)
 
 pub pause-code-spec : {M : Type 1} → statement M
 pause-code-spec =
     tie.close
     (tie.spec
-    comes-in-requires
     gate-requires
     returns
     is-busy-requires

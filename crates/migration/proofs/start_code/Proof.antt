@@ -3,37 +3,31 @@ use borrow.Author.Needs.{needs}
 use Rattle.migration.specs.Migration.{startCode}
 use borrow.Author.Tests.{eq-eqb, ne-eqb}
 use Rattle.session.proofs.Laws.{gate-first}
-use mathlib.Core.Path.{ap}
-use Rattle.session.specs.declared.Comes.{Comes}
 use Rattle.migration.proofs.start_code.Statement.{statement}
 use Rattle.migration.proofs.start_code.Tie as tie
-
-comes-in-requires : tie.Need-comes-in-requires
-comes-in-requires c κs = search needs
 
 gate-requires : tie.Need-gate-requires
 gate-requires c κs = search needs
 
 returns : tie.Need-returns
 unfolding startCode
-returns c = rw (gate-first, ← ap (λ (x : Comes). x .idle) (c .before .before .comes-in .ensures), ← c .before .gate .ensures, ne-eqb _ _ (c .if1 .taken))
+returns c = rw (gate-first, ← c .before .gate .ensures, ne-eqb _ _ (c .if1 .taken))
 
 has-requires : tie.Need-has-requires
 has-requires c κs = search needs
 
 returns-2 : tie.Need-returns-2
 unfolding startCode
-returns-2 c = rw (gate-first, ← ap (λ (x : Comes). x .idle) (c .before .before .before .before .comes-in .ensures), ← c .before .before .before .gate .ensures, eq-eqb _ _ (c .before .before .if1 .left), ← c .before .has .ensures, c .if2 .taken)
+returns-2 c = rw (gate-first, ← c .before .before .before .gate .ensures, eq-eqb _ _ (c .before .before .if1 .left), ← c .before .has .ensures, c .if2 .taken)
 
 returns-3 : tie.Need-returns-3
 unfolding startCode
-returns-3 c = rw (gate-first, ← ap (λ (x : Comes). x .idle) (c .before .before .before .before .comes-in .ensures), ← c .before .before .before .gate .ensures, eq-eqb _ _ (c .before .before .if1 .left), ← c .before .has .ensures, c .if2 .left)
+returns-3 c = rw (gate-first, ← c .before .before .before .gate .ensures, eq-eqb _ _ (c .before .before .if1 .left), ← c .before .has .ensures, c .if2 .left)
 
 pub start-code-spec : {M : Type 1} → statement M
 start-code-spec =
     tie.close
     (tie.spec
-    comes-in-requires
     gate-requires
     returns
     has-requires

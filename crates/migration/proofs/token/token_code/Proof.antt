@@ -3,55 +3,49 @@ use borrow.Author.Needs.{needs}
 use Rattle.migration.specs.Token.{tokenCode}
 use borrow.Author.Tests.{eq-eqb, ne-eqb}
 use Rattle.session.proofs.Laws.{gate-first}
-use mathlib.Core.Path.{ap}
-use Rattle.session.specs.declared.Comes.{Comes}
 use Rattle.migration.proofs.token.token_code.Statement.{statement}
 use Rattle.migration.proofs.token.token_code.Tie as tie
-
-comes-in-requires : tie.Need-comes-in-requires
-comes-in-requires c κs = search needs
 
 gate-requires : tie.Need-gate-requires
 gate-requires c κs = search needs
 
 returns : tie.Need-returns
 unfolding tokenCode
-returns c = rw (gate-first, ← ap (λ (x : Comes). x .blackout) (c .before .before .comes-in .ensures), ← c .before .gate .ensures, ne-eqb _ _ (c .if1 .taken))
+returns c = rw (gate-first, ← c .before .gate .ensures, ne-eqb _ _ (c .if1 .taken))
 
 is-busy-requires : tie.Need-is-busy-requires
 is-busy-requires c κs = search needs
 
 returns-2 : tie.Need-returns-2
 unfolding tokenCode
-returns-2 c = rw (gate-first, ← ap (λ (x : Comes). x .blackout) (c .before .before .before .before .before .comes-in .ensures), ← c .before .before .before .before .gate .ensures, eq-eqb _ _ (c .before .before .before .if1 .left), ← c .before .before .is-busy .ensures, c .if2 .taken)
+returns-2 c = rw (gate-first, ← c .before .before .before .before .gate .ensures, eq-eqb _ _ (c .before .before .before .if1 .left), ← c .before .before .is-busy .ensures, c .if2 .taken)
 
 returns-3 : tie.Need-returns-3
 unfolding tokenCode
-returns-3 c = rw (gate-first, ← ap (λ (x : Comes). x .blackout) (c .before .before .before .before .before .before .comes-in .ensures), ← c .before .before .before .before .before .gate .ensures, eq-eqb _ _ (c .before .before .before .before .if1 .left), ← c .before .before .before .is-busy .ensures, c .before .if2 .left, c .if3 .taken)
+returns-3 c = rw (gate-first, ← c .before .before .before .before .before .gate .ensures, eq-eqb _ _ (c .before .before .before .before .if1 .left), ← c .before .before .before .is-busy .ensures, c .before .if2 .left, c .if3 .taken)
 
 has-requires : tie.Need-has-requires
 has-requires c κs = search needs
 
 returns-4 : tie.Need-returns-4
 unfolding tokenCode
-returns-4 c = rw (gate-first, ← ap (λ (x : Comes). x .blackout) (c .before .before .before .before .before .before .before .before .comes-in .ensures), ← c .before .before .before .before .before .before .before .gate .ensures, eq-eqb _ _ (c .before .before .before .before .before .before .if1 .left), ← c .before .before .before .before .before .is-busy .ensures, ← c .before .has .ensures, c .before .before .before .if2 .left, c .before .before .if3 .left, c .if4 .taken)
+returns-4 c = rw (gate-first, ← c .before .before .before .before .before .before .before .gate .ensures, eq-eqb _ _ (c .before .before .before .before .before .before .if1 .left), ← c .before .before .before .before .before .is-busy .ensures, ← c .before .has .ensures, c .before .before .before .if2 .left, c .before .before .if3 .left, c .if4 .taken)
 
 has-requires-2 : tie.Need-has-requires-2
 has-requires-2 c κs = search needs
 
 returns-5 : tie.Need-returns-5
 unfolding tokenCode
-returns-5 c = rw (gate-first, ← ap (λ (x : Comes). x .blackout) (c .before .before .before .before .before .before .before .before .before .before .comes-in .ensures), ← c .before .before .before .before .before .before .before .before .before .gate .ensures, eq-eqb _ _ (c .before .before .before .before .before .before .before .before .if1 .left), ← c .before .before .before .before .before .before .before .is-busy .ensures, ← c .before .before .before .has .ensures, ← c .before .has2 .ensures, c .before .before .before .before .before .if2 .left, c .before .before .before .before .if3 .left, c .before .before .if4 .left, c .if5 .taken)
+returns-5 c = rw (gate-first, ← c .before .before .before .before .before .before .before .before .before .gate .ensures, eq-eqb _ _ (c .before .before .before .before .before .before .before .before .if1 .left), ← c .before .before .before .before .before .before .before .is-busy .ensures, ← c .before .before .before .has .ensures, ← c .before .has2 .ensures, c .before .before .before .before .before .if2 .left, c .before .before .before .before .if3 .left, c .before .before .if4 .left, c .if5 .taken)
 
 returns-6 : tie.Need-returns-6
 unfolding tokenCode
-returns-6 c = rw (gate-first, ← ap (λ (x : Comes). x .blackout) (c .before .before .before .before .before .before .before .before .before .before .comes-in .ensures), ← c .before .before .before .before .before .before .before .before .before .gate .ensures, eq-eqb _ _ (c .before .before .before .before .before .before .before .before .if1 .left), ← c .before .before .before .before .before .before .before .is-busy .ensures, ← c .before .before .before .has .ensures, ← c .before .has2 .ensures, c .before .before .before .before .before .if2 .left, c .before .before .before .before .if3 .left, c .before .before .if4 .left, c .if5 .left)
+returns-6 c = rw (gate-first, ← c .before .before .before .before .before .before .before .before .before .gate .ensures, eq-eqb _ _ (c .before .before .before .before .before .before .before .before .if1 .left), ← c .before .before .before .before .before .before .before .is-busy .ensures, ← c .before .before .before .has .ensures, ← c .before .has2 .ensures, c .before .before .before .before .before .if2 .left, c .before .before .before .before .if3 .left, c .before .before .if4 .left, c .if5 .left)
 
 pub token-code-spec : {M : Type 1} → statement M
 token-code-spec =
     tie.close
     (tie.spec
-    comes-in-requires
     gate-requires
     returns
     is-busy-requires
