@@ -3,9 +3,10 @@
 
 # Proves and builds what there is to run, and runs it.
 run:
-	rt check named_numbers word_vectors
-	target/bin/named_numbers
-	target/bin/word_vectors < crates/word_vectors/stdin
+	rt check named_numbers word_vectors scenario
+	.ci/program named_numbers
+	.ci/program word_vectors < crates/word_vectors/stdin
+	.ci/program scenario < crates/scenario/stdin
 
 # The gate.
 test:

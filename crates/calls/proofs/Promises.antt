@@ -2,7 +2,7 @@
 use mathlib.Core.Path.{_≡_, refl, sym, ap, _∙_}
 use mathlib.Core.Bool.{Bool, true, false, cond, true≢false, false≢true}
 use mathlib.Core.List.{List}
-use Prim.Native.Nat.{ℕ, _+_}
+use Prim.Native.Nat.{ℕ, _+_, _<_}
 use lib.Dec.{eqb, ltb}
 use lib.ListN.{length, replicate}
 use native.Mathlib.Nat.{le-refl}
@@ -10,25 +10,27 @@ use borrow.Author.Tests.{eqb-true, eqb-false, ltb-true, ltb-false}
 use Rattle.words.specs.Codes as codes
 use Rattle.page.specs.Page.{pageOf, strange}
 use Rattle.page.specs.Moves.{turnOf}
-use Rattle.page.specs.Sweeps.{uncached, started, aborted, sweptWords}
+use Rattle.page.specs.Sweeps.{uncached, started, aborted, sweptBy, unlessStrange, sweptWords}
 use Rattle.page.specs.declared.records.PageWords.{PageWords}
 use Rattle.page.specs.declared.moves.Turn.{Turn}
 use Rattle.page.specs.declared.Page.{Page}
-use Rattle.page.proofs.MoveLaws.{strange-turn, strange-swept}
+use Rattle.page.specs.declared.sweeps.Sweep.{Sweep}
+use Rattle.page.proofs.MoveLaws.{strange-turn, strange-swept, sweep-becomes}
 use Rattle.page.specs.declared.moves.Move.{Move}
 use Rattle.page.specs.declared.moves.Move.the-variants as move
 use Rattle.table.specs.Table.{pageCount, wordsAt, pageAt, putAt, sweepOf}
-use Rattle.table.proofs.Laws.{put-other, sweep-at, sweep-ahead}
-use Rattle.session.specs.Session.{fresh, withTlb, withEpoch, withPhase, withCheck, unchecked, begun}
+use Rattle.table.proofs.Laws.{put-other, sweep-at, sweep-ahead, page-sweep}
+use Rattle.session.specs.Session.{newSession, withTlb, withEpoch, withPhase, withCheck, unchecked, begun}
 use Rattle.session.specs.Outcome.{Outcome, outcome, answered, answeredBy}
 use Rattle.session.specs.declared.Session.{Session}
 use Rattle.session.specs.declared.Phase.the-variants as phase
 use Rattle.memory.specs.Memory.{newCode, newOut, pageCode, pageTurn, onPage, writeOut, addOut, acceptOut, blockOut, unblockOut, removeOut, trackCode, trackOut}
+use Rattle.memory.proofs.Laws.{page-done, page-other}
 use Rattle.migration.specs.Migration.{startCode, startOut, pauseCode, pauseOut, abortCode, abortOut, newEpochCode, newEpochOut, resetCode, resetOut}
 use Rattle.migration.specs.Token.{tokenNumber, tokenPage, tokenCode, inTheWay, tokenFor, tokenOut}
 use Rattle.migration.proofs.Laws.{token-number, token-page, new-epoch-table, reset-table}
 use Rattle.calls.specs.Calls.{effectOf}
-use Rattle.calls.specs.Promises.{OneOutcome, refusal, RefusalKeeps, isNew, StrangeStays}
+use Rattle.calls.specs.Promises.{OneOutcome, refusal, RefusalKeeps, isNew, StrangeStays, PagesMove}
 use Rattle.calls.specs.declared.Call.{Call}
 use Rattle.calls.specs.declared.Call.the-variants.{New, Write, Add, Accept, Block, Unblock, Remove, Track, Start, Pause, Abort, NewEpoch, Reset, StartToken}
 
@@ -79,7 +81,7 @@ module _ (s : Session) (t : List ℕ) where
   keeps : (c : Call) → refusal (effectOf c s t .returned .code) ≡ true → (effectOf c s t .returned .session ≡ s) × (effectOf c s t .table ≡ t)
   unfolding newOut writeOut addOut acceptOut blockOut unblockOut removeOut trackOut startOut pauseOut abortOut newEpochOut resetOut
   keeps (New created) r =
-      answered-keeps (newCode (length t) created) s t (fresh (pageCount t) created) (replicate (length t) 0) r
+      answered-keeps (newCode (length t) created) s t (newSession (pageCount t) created) (replicate (length t) 0) r
   keeps (Write page mark) r = page-keeps (move.Write mark) s t page r
   keeps (Add page) r = page-keeps move.Add s t page r
   keeps (Accept page) r = page-keeps move.Accept s t page r
@@ -177,3 +179,12 @@ module _ (s : Session) (t : List ℕ) (i : ℕ) (e : strange (pageAt t i) ≡ tr
 
 pub strange-stays : StrangeStays
 strange-stays = record { words = λ c s t i n e. strange-words s t i e c n }
+
+-- ---- pages
+
+sweep-done : (k : Sweep) (s s' : Session) (t : List ℕ) (i : ℕ) → i < pageCount t → pageAt (answeredBy (sweptBy k) 0 s s' t .table) i ≡ unlessStrange (sweptBy k) (pageAt t i)
+unfolding answered
+sweep-done k s s' t i h = page-sweep (sweptBy k) (sweep-becomes k) t i h
+
+pub pages-move : PagesMove
+pages-move = record { one = page-done; others = page-other; all = sweep-done }

@@ -2,13 +2,19 @@
 use mathlib.Core.Path.{_≡_}
 use mathlib.Core.Bool.{Bool, true, false, _||_}
 use mathlib.Core.List.{List}
-use Prim.Native.Nat.{ℕ}
+use Prim.Native.Nat.{ℕ, _<_}
 use lib.Dec.{eqb}
 use Rattle.words.specs.Codes as codes
 use Rattle.page.specs.Page.{strange}
-use Rattle.table.specs.Table.{wordsAt, pageAt}
+use Rattle.page.specs.Moves.{stepOf}
+use Rattle.page.specs.Sweeps.{sweptBy, unlessStrange}
+use Rattle.page.specs.declared.moves.Move.{Move}
+use Rattle.page.specs.declared.sweeps.Sweep.{Sweep}
+use Rattle.table.specs.Table.{pageCount, wordsAt, pageAt}
 use Rattle.session.specs.Formed.{within}
+use Rattle.session.specs.Outcome.{answeredBy}
 use Rattle.session.specs.declared.Session.{Session}
+use Rattle.memory.specs.Memory.{onPage}
 use Rattle.calls.specs.Calls.{effectOf}
 use Rattle.calls.specs.declared.Call.{Call}
 use Rattle.calls.specs.declared.Call.the-variants.{New, Write, Add, Accept, Block, Unblock, Remove, Track, Start, Pause, Abort, NewEpoch, Reset, StartToken}
@@ -53,3 +59,9 @@ isNew StartToken = false
 -- no call but New changes a strange record
 pub record StrangeStays : Type 0 where
   pub words : (c : Call) (s : Session) (t : List ℕ) (i : ℕ) → isNew c ≡ false → strange (pageAt t i) ≡ true → wordsAt (effectOf c s t .table) i ≡ wordsAt t i
+
+-- a call that is done has moved its page, or every page, and no other
+pub record PagesMove : Type 0 where
+  pub one : (m : Move) (s : Session) (t : List ℕ) (at : ℕ) → onPage m s t at .answer .code ≡ 0 → pageAt (onPage m s t at .table) at ≡ stepOf m (pageAt t at) (s .tlb) .page
+  pub others : (m : Move) (s : Session) (t : List ℕ) (at k : ℕ) → (k ≡ at → ⊥) → wordsAt (onPage m s t at .table) k ≡ wordsAt t k
+  pub all : (k : Sweep) (s s' : Session) (t : List ℕ) (i : ℕ) → i < pageCount t → pageAt (answeredBy (sweptBy k) 0 s s' t .table) i ≡ unlessStrange (sweptBy k) (pageAt t i)

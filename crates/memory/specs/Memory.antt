@@ -5,7 +5,7 @@ use Prim.Native.Nat.{ℕ, _+_}
 use lib.Dec.{eqb, leb}
 use lib.ListN.{length, replicate}
 use Rattle.words.specs.Codes as codes
-use Rattle.refusals.specs.Refusals.{_gives_, firstOf}
+use Rattle.refusals.specs.Refusals.{Test, _gives_, firstOf}
 use Rattle.page.specs.Moves.{turnOf}
 use Rattle.page.specs.Sweeps.{uncached}
 use Rattle.page.specs.declared.records.PageWords.{PageWords}
@@ -13,7 +13,7 @@ use Rattle.page.specs.declared.moves.Turn.{Turn}
 use Rattle.page.specs.declared.moves.Move.{Move}
 use Rattle.page.specs.declared.moves.Move.the-variants.{Write, Add, Accept, Block, Unblock, Remove}
 use Rattle.table.specs.Table.{legal, pageCount, wordsAt, putAt}
-use Rattle.session.specs.Session.{isIn, guest, fresh, withTlb}
+use Rattle.session.specs.Session.{among, guest, newSession, withTlb}
 use Rattle.session.specs.Formed.{formed, gated, within, fewestCreated, mostCreated, lastEpoch}
 use Rattle.session.specs.Outcome.{Outcome, answered, answeredBy}
 use Rattle.session.specs.declared.Phase.the-variants.{Blackout}
@@ -29,7 +29,7 @@ newCode len created =
 -- the session given is not read, and comes back as it was when refused
 unfoldable pub newOut : Session → List ℕ → ℕ → Outcome
 newOut s t created =
-    answered (newCode (length t) created) s t (fresh (pageCount t) created) (replicate (length t) 0)
+    answered (newCode (length t) created) s t (newSession (pageCount t) created) (replicate (length t) 0)
 
 -- ---- calls on one page
 
@@ -42,14 +42,16 @@ isBlock Unblock = false
 isBlock Remove = false
 
 -- a block in Blackout is 49; a page number beyond the table is 42
-unfoldable pub pageCode : Move → Session → ℕ → ℕ → ℕ
-pageCode m s len at =
-    firstOf
-    (not (formed s len) gives codes.malformed
-    ∷ (isBlock m && isIn (Blackout ∷ []) (s .phase)) gives codes.blockingDisallowed
-    ∷ not (isIn guest (s .phase)) gives codes.opStateIncorrect
+abbrev pub pageTests : Move → Session → ℕ → ℕ → List Test
+pageTests m s len at =
+    not (formed s len) gives codes.malformed
+    ∷ (isBlock m && among (Blackout ∷ []) (s .phase)) gives codes.blockingDisallowed
+    ∷ not (among guest (s .phase)) gives codes.opStateIncorrect
     ∷ leb (s .pages) at gives codes.operandInvalid
-    ∷ [])
+    ∷ []
+
+unfoldable pub pageCode : Move → Session → ℕ → ℕ → ℕ
+pageCode m s len at = firstOf (pageTests m s len at)
 
 -- the whole call on the page's two words
 unfoldable pub pageTurn : Move → Session → ℕ → ℕ → PageWords → Turn
@@ -81,8 +83,11 @@ removeOut s t at = onPage Remove s t at
 -- ---- track
 
 -- 56 at the limit
+abbrev pub trackTests : Session → List Test
+trackTests s = leb lastEpoch (s .tlb) gives codes.tlbEpochAtLimit ∷ []
+
 unfoldable pub trackCode : Session → ℕ → ℕ
-trackCode s len = gated s len guest (leb lastEpoch (s .tlb) gives codes.tlbEpochAtLimit ∷ [])
+trackCode s len = gated s len guest (trackTests s)
 
 -- TLB epoch plus one and every Cached bit cleared
 unfoldable pub trackOut : Session → List ℕ → Outcome

@@ -25,7 +25,7 @@ fn new_code(len: usize, created: u64) -> u64
     codes::DONE
 }
 
-// A fresh bench over the lent table.
+// A newSession bench over the lent table.
 pub fn new(s: Session, table: &mut [u64], created: u64) -> Answer
     ensures { λ r. ⌜ r ≡ newOut s (now (table .entry)) created .answer ⌝ }
     ensures { λ _. ⌜ now (table .exit) ≡ newOut s (now (table .entry)) created .table ⌝ }

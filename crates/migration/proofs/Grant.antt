@@ -8,7 +8,6 @@ use lib.Dec.{lit<}
 use lib.ListN.{length}
 use Rattle.words.specs.Codes as codes
 use Rattle.words.specs.Record.{recordOf, plain}
-use Rattle.refusals.specs.Refusals.{Test, _gives_}
 use Rattle.refusals.proofs.Laws.{not-false, Ends}
 use Rattle.states.specs.States.{stateOf}
 use Rattle.states.specs.Rows.{rowOf}
@@ -18,16 +17,16 @@ use Rattle.page.specs.Page.{pageOf, strange, gives53, gives54}
 use Rattle.page.specs.declared.Page.{Page}
 use Rattle.table.specs.Table.{legal, wordsAt, pageCount, pageAt, some, Lowest}
 use Rattle.table.proofs.Laws.{some-none, none-some, some-lowest}
-use Rattle.session.specs.Session.{isIn, atRest}
-use Rattle.session.specs.Formed.{runResting, numberTests, formed, gated, busy}
+use Rattle.session.specs.Session.{among, atRest}
+use Rattle.session.specs.Formed.{runResting, numberTests, formed, gateTests, gated, busy}
 use Rattle.session.specs.declared.Phase.{Phase}
 use Rattle.session.specs.declared.Phase.the-variants.{Idle, Live, Blackout, Done}
 use Rattle.session.specs.declared.Session.{Session}
 use Rattle.session.specs.declared.streams.Run.{Run}
 use Rattle.session.specs.declared.streams.Run.the-variants.{AtRest, Interrupted}
-use Rattle.session.proofs.Laws.{gateTests, gate-open, open-gate, gate-ended}
+use Rattle.session.proofs.Laws.{gate-open, open-gate, gate-ended}
 use Rattle.session.proofs.FormedLaws.{busy-means, means-busy}
-use Rattle.migration.specs.Token.{tokenNumber, tokenPage, tokenCode, inTheWay, tokenFor, tokenOut}
+use Rattle.migration.specs.Token.{tokenNumber, tokenPage, tokenTests, tokenCode, inTheWay, tokenFor, tokenOut}
 use Rattle.migration.specs.Grant.{Ready, Grantable, GrantedExactly, NamesTheLowest}
 use Rattle.migration.specs.declared.token.Token.the-variants.{Granted, InTheWay}
 use Rattle.migration.proofs.Laws.{token-number, token-page}
@@ -77,7 +76,7 @@ ready-gives p r = ⊎-elim (free-gives p) (λ x. sent-gives p (x .0) (x .1)) (r 
 
 -- ---- the session
 
-paused-is : (p : Phase) → isIn (Blackout ∷ []) p ≡ true → p ≡ Blackout
+paused-is : (p : Phase) → among (Blackout ∷ []) p ≡ true → p ≡ Blackout
 paused-is Idle e = absurd (false≢true e)
 paused-is Live e = absurd (false≢true e)
 paused-is Blackout e = refl
@@ -88,14 +87,6 @@ resting-is AtRest e = refl
 resting-is (Interrupted next last errors pages) e = absurd (false≢true e)
 
 module _ (s : Session) (t : List ℕ) where
-  abbrev tests : List Test
-  tests =
-      busy s gives codes.operandBusy
-      ∷ not (s .check .complete) gives codes.memScanDcheckNotDone
-      ∷ some gives53 t gives codes.exportedDirtyPagesRemain
-      ∷ some gives54 t gives codes.unexportedMemoryRemains
-      ∷ []
-
   code-granted : tokenCode s t ≡ 0 → tokenOut s t .token ≡ Granted
   unfolding tokenOut tokenFor
   code-granted e = rw e
@@ -107,7 +98,7 @@ module _ (s : Session) (t : List ℕ) where
   granted-only : tokenOut s t .token ≡ Granted → Grantable s t
   unfolding tokenCode
   granted-only e =
-      let o = gate-open s (length t) (Blackout ∷ []) tests refl (granted-code e) in
+      let o = gate-open s (length t) (Blackout ∷ []) (tokenTests s t) refl (granted-code e) in
       record {
         paused = paused-is (s .phase) (o .comes);
         rest = λ i h. resting-is _ (busy-means s (o .passed .0) i h);
@@ -119,10 +110,10 @@ module _ (s : Session) (t : List ℕ) where
   unfolding tokenCode
   granted-whenever f g =
       code-granted
-      (open-gate s (length t) (Blackout ∷ []) tests
+      (open-gate s (length t) (Blackout ∷ []) (tokenTests s t)
       (record {
         formed = f;
-        comes = ap (isIn (Blackout ∷ [])) (g .paused);
+        comes = ap (among (Blackout ∷ [])) (g .paused);
         passed = (
           means-busy s (λ i h. ap runResting (g .rest i h)),
           (
@@ -153,12 +144,12 @@ module _ (s : Session) (t : List ℕ) (p : ℕ) where
   lowest-53 : tokenOut s t .token ≡ InTheWay codes.exportedDirtyPagesRemain p → Lowest gives53 t p
   unfolding tokenCode inTheWay
   lowest-53 e =
-      let ends = gate-ended s (length t) (Blackout ∷ []) (tests s t) codes.exportedDirtyPagesRemain (lit< tt) refl (named-code _ e) in
+      let ends = gate-ended s (length t) (Blackout ∷ []) (tokenTests s t) codes.exportedDirtyPagesRemain (lit< tt) refl (named-code _ e) in
       rw (← named-page _ e) (some-lowest gives53 t (ends .1 .1 .1 .1))
 
-  ends-54 : tokenOut s t .token ≡ InTheWay codes.unexportedMemoryRemains p → Ends (gateTests s (length t) (Blackout ∷ []) (tests s t)) codes.unexportedMemoryRemains
+  ends-54 : tokenOut s t .token ≡ InTheWay codes.unexportedMemoryRemains p → Ends (gateTests s (length t) (Blackout ∷ []) (tokenTests s t)) codes.unexportedMemoryRemains
   unfolding tokenCode
-  ends-54 e = gate-ended s (length t) (Blackout ∷ []) (tests s t) codes.unexportedMemoryRemains (lit< tt) refl (named-code _ e)
+  ends-54 e = gate-ended s (length t) (Blackout ∷ []) (tokenTests s t) codes.unexportedMemoryRemains (lit< tt) refl (named-code _ e)
 
   lowest-54 : tokenOut s t .token ≡ InTheWay codes.unexportedMemoryRemains p → Lowest gives54 t p
   unfolding inTheWay
@@ -182,3 +173,8 @@ exported = 0 ∷ 0 ∷ 24 ∷ 7 ∷ 29 ∷ 0 ∷ []
 pub grant-met : (formed paused (length exported) ≡ true) × (tokenOut paused exported .token ≡ Granted)
 unfolding formed legal numberTests tokenOut tokenFor tokenCode gated busy some gives53 gives54 rowOf stateOf pageOf plain recordOf wordsAt
 grant-met = (refl, refl)
+
+-- and a token that is refused for its page 1: one exported and Dirty, one mapped
+pub obstacles-met : (tokenOut paused (0 ∷ 0 ∷ 280 ∷ 7 ∷ 4 ∷ 0 ∷ []) .token ≡ InTheWay codes.exportedDirtyPagesRemain 1) × (tokenOut paused (0 ∷ 0 ∷ 4 ∷ 7 ∷ 24 ∷ 0 ∷ []) .token ≡ InTheWay codes.unexportedMemoryRemains 1)
+unfolding formed legal numberTests tokenOut tokenFor inTheWay tokenCode gated busy some gives53 gives54 rowOf stateOf pageOf plain recordOf wordsAt
+obstacles-met = (refl, refl)

@@ -14,7 +14,7 @@ use Rattle.session.specs.Session.{moving, unchecked, withEpoch, withCheck}
 use Rattle.session.specs.Formed.{busy, lastEpoch}
 use Rattle.session.specs.declared.Session.{Session}
 use Rattle.session.proofs.Laws.{gate-open, table-kept}
-use Rattle.migration.specs.Migration.{newEpochCode, newEpochOut, resetCode, resetOut}
+use Rattle.migration.specs.Migration.{newEpochTests, newEpochCode, newEpochOut, resetCode, resetOut}
 use Rattle.migration.specs.Token.{tokenNumber, tokenPage, inTheWay, tokenFor}
 use Rattle.migration.specs.declared.token.Token.the-variants.{Granted, Refused, InTheWay}
 
@@ -22,7 +22,7 @@ pub epoch-room : (s : Session) (t : List ℕ) → newEpochCode s t ≡ 0 → s .
 unfolding newEpochCode
 epoch-room s t e =
     leb-false lastEpoch (s .epoch)
-    (gate-open s (length t) moving (busy s gives codes.operandBusy ∷ leb lastEpoch (s .epoch) gives codes.migrationEpochOverflow ∷ []) refl e .passed .1 .0)
+    (gate-open s (length t) moving (newEpochTests s) refl e .passed .1 .0)
 
 -- a new epoch and a reset leave the table
 pub new-epoch-table : (s : Session) (t : List ℕ) → newEpochOut s t .table ≡ t

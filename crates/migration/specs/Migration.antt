@@ -4,7 +4,7 @@ use Prim.Native.Nat.{ℕ, _+_}
 use lib.Dec.{leb}
 use lib.ListN.{length}
 use Rattle.words.specs.Codes as codes
-use Rattle.refusals.specs.Refusals.{_gives_}
+use Rattle.refusals.specs.Refusals.{Test, _gives_}
 use Rattle.page.specs.Page.{unstartable, blocked}
 use Rattle.page.specs.Sweeps.{uncached, started, aborted}
 use Rattle.table.specs.Table.{some}
@@ -38,8 +38,11 @@ unfoldable pub abortOut : Session → List ℕ → Outcome
 abortOut s t = answeredBy aborted (abortCode s t) s (begun s Idle 0) t
 
 -- 43, 55
+abbrev pub newEpochTests : Session → List Test
+newEpochTests s = busy s gives codes.operandBusy ∷ leb lastEpoch (s .epoch) gives codes.migrationEpochOverflow ∷ []
+
 unfoldable pub newEpochCode : Session → List ℕ → ℕ
-newEpochCode s t = gated s (length t) moving (busy s gives codes.operandBusy ∷ leb lastEpoch (s .epoch) gives codes.migrationEpochOverflow ∷ [])
+newEpochCode s t = gated s (length t) moving (newEpochTests s)
 
 -- plus one
 unfoldable pub newEpochOut : Session → List ℕ → Outcome

@@ -5,7 +5,7 @@ use Prim.Native.Nat.{ℕ}
 use lib.Dec.{eqb}
 use lib.ListN.{length}
 use Rattle.words.specs.Codes as codes
-use Rattle.refusals.specs.Refusals.{_gives_}
+use Rattle.refusals.specs.Refusals.{Test, _gives_}
 use Rattle.page.specs.Page.{gives53, gives54}
 use Rattle.table.specs.Table.{pageCount, lowest, some}
 use Rattle.session.specs.Session.{withPhase}
@@ -28,14 +28,16 @@ tokenPage (Refused code) = 0
 tokenPage (InTheWay code page) = page
 
 -- 43, 52, 53, 54
-unfoldable pub tokenCode : Session → List ℕ → ℕ
-tokenCode s t =
-    gated s (length t) (Blackout ∷ [])
-    (busy s gives codes.operandBusy
+abbrev pub tokenTests : Session → List ℕ → List Test
+tokenTests s t =
+    busy s gives codes.operandBusy
     ∷ not (s .check .complete) gives codes.memScanDcheckNotDone
     ∷ some gives53 t gives codes.exportedDirtyPagesRemain
     ∷ some gives54 t gives codes.unexportedMemoryRemains
-    ∷ [])
+    ∷ []
+
+unfoldable pub tokenCode : Session → List ℕ → ℕ
+tokenCode s t = gated s (length t) (Blackout ∷ []) (tokenTests s t)
 
 -- 53 and 54 each have the lowest such page
 unfoldable pub inTheWay : ℕ → List ℕ → ℕ

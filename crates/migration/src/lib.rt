@@ -41,12 +41,12 @@ fn pause_code(s: Session, table: &[u64]) -> u64
     if gate != codes::DONE {
         return gate;
     }
-    let busy = session::is_busy(s);
+    let interrupted = session::is_busy(s);
     let blocked = table::has(table, Sought::Blocked);
     if blocked {
         return codes::BLOCKED_MEMORY_EXISTS;
     }
-    if busy {
+    if interrupted {
         return codes::OPERAND_BUSY;
     }
     codes::DONE
@@ -77,8 +77,8 @@ fn new_epoch_code(s: Session, table: &[u64]) -> u64
     if gate != codes::DONE {
         return gate;
     }
-    let busy = session::is_busy(s);
     let last = session::LAST_EPOCH <= s.epoch;
+    let busy = session::is_busy(s);
     if busy {
         return codes::OPERAND_BUSY;
     }

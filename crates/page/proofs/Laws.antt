@@ -4,7 +4,7 @@ use mathlib.Core.Bool.{Bool, true, false, not, _&&_, true≢false}
 use Prim.Native.Nat.{ℕ, _^_, _<_}
 use lib.Dec.{eqb, ltb, lit<}
 use borrow.Author.Tests.{lt-ltb, ltb-true, eqb-true}
-use Rattle.words.specs.Record.{recordOf, RecordFits, plain}
+use Rattle.words.specs.Record.{recordOf, room, RecordFits, plain}
 use Rattle.words.proofs.RecordLaws.{record-word, word-record, record-fits}
 use Rattle.words.specs.declared.records.Record.{Record}
 use Rattle.refusals.proofs.Laws.{and-left, and-right, not-true}
@@ -18,20 +18,8 @@ use Rattle.page.specs.declared.records.PageWords.{PageWords}
 
 pub record Held (p : Page) : Type 0 where
   pub known : strange p ≡ false
-  pub stamp : p .stamp < 2 ^ 16
-  pub epoch : p .epoch < 2 ^ 16
-
-pub held-fields : (p : Page) → held p ≡ true → Held p
-unfolding held
-held-fields p e =
-    let a = not (strange p) in
-    let b = ltb (p .stamp) (2 ^ 16) in
-    let c = ltb (p .epoch) (2 ^ 16) in
-    record {
-      known = not-true (strange p) (and-left a (b && c) e);
-      stamp = ltb-true _ _ (and-left b c (and-right a (b && c) e));
-      epoch = ltb-true _ _ (and-right b c (and-right a (b && c) e));
-    }
+  pub stamp : p .stamp < room
+  pub epoch : p .epoch < room
 
 pub fields-held : (p : Page) → Held p → held p ≡ true
 unfolding held

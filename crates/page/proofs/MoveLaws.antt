@@ -4,13 +4,14 @@ use mathlib.Core.Bool.{Bool, true, false, cond, not, _&&_, _||_, true≢false, f
 use Prim.Native.Nat.{ℕ, _^_, _<_}
 use lib.Dec.{eqb, lit<}
 use Rattle.words.specs.Codes as codes
+use Rattle.words.specs.Record.{room}
 use Rattle.states.specs.Rows.{rowOf}
 use Rattle.states.specs.declared.State.{State}
 use Rattle.states.specs.declared.State.the-variants.{Free, Blocked, Pending, PendingBlocked, Mapped, Exported, ExportedModified, ExportedBlocked, ExportedRemoved, PendingExported, PendingExportedModified, PendingExportedBlocked, Strange}
 use Rattle.states.proofs.Laws.{strange-same}
 use Rattle.page.specs.Page.{pageOf, strange, tracked}
 use Rattle.page.specs.Moves.{settled, moveCode, leaveCode, moved, emptied, marked, writeStep, addStep, acceptStep, blockStep, unblockStep, removeStep, stepOf, turnOf}
-use Rattle.page.specs.Sweeps.{keptStamp, fresh, sweptBy, unlessStrange, sweptWords}
+use Rattle.page.specs.Sweeps.{keptStamp, refreshed, sweptBy, unlessStrange, sweptWords}
 use Rattle.page.specs.declared.Page.{Page}
 use Rattle.page.specs.declared.records.PageWords.{PageWords}
 use Rattle.page.specs.declared.moves.Step.{Step}
@@ -82,7 +83,7 @@ leave-known to stamp tlb = by (rowOf to .strange)
 emptied-held : (p : Page) (to : State) → rowOf to .strange ≡ false → Held p → Held (emptied p to)
 emptied-held p to k h = record { known = k; stamp = lit< tt; epoch = h .epoch }
 
-moved-held : (p : Page) (to : State) (stamp : ℕ) → stamp < 2 ^ 16 → rowOf to .strange ≡ false → Held p → Held (moved p to stamp)
+moved-held : (p : Page) (to : State) (stamp : ℕ) → stamp < room → rowOf to .strange ≡ false → Held p → Held (moved p to stamp)
 moved-held p to stamp r k h = record { known = k; stamp = r; epoch = h .epoch }
 
 -- the state stays, so a strange page is not written to
@@ -105,7 +106,7 @@ write-becomes p mark = by (rowOf (p .state) .writable) (rowOf (p .state) .landin
     by false false x y = record { stays = λ s. refl; holds = λ h. h }
 
 -- a step with a TLB epoch that a stamp can hold
-pub step-becomes : (m : Move) (p : Page) (tlb : ℕ) → tlb < 2 ^ 16 → Becomes p (stepOf m p tlb .page)
+pub step-becomes : (m : Move) (p : Page) (tlb : ℕ) → tlb < room → Becomes p (stepOf m p tlb .page)
 unfolding writeStep addStep acceptStep blockStep unblockStep removeStep settled
 step-becomes (Write mark) p tlb r = write-becomes p mark
 step-becomes Add p tlb r =
@@ -141,18 +142,18 @@ abort-known PendingExportedModified e = refl
 abort-known PendingExportedBlocked e = refl
 abort-known Strange e = absurd (true≢false e)
 
-fresh-held : (p : Page) (to : State) → rowOf to .strange ≡ false → Held p → Held (fresh p to)
+refreshed-held : (p : Page) (to : State) → rowOf to .strange ≡ false → Held p → Held (refreshed p to)
 unfolding keptStamp
-fresh-held p to k h = record { known = k; stamp = by (rowOf to .stamped); epoch = lit< tt }
+refreshed-held p to k h = record { known = k; stamp = by (rowOf to .stamped); epoch = lit< tt }
   where
-    by : (b : Bool) → cond b (p .stamp) 0 < 2 ^ 16
+    by : (b : Bool) → cond b (p .stamp) 0 < room
     by true = h .stamp
     by false = lit< tt
 
 sweep-held : (k : Sweep) (p : Page) → Held p → Held (sweptBy k p)
 sweep-held Uncache p h = record { known = h .known; stamp = h .stamp; epoch = h .epoch }
-sweep-held Start p h = fresh-held p (p .state) (h .known) h
-sweep-held Abort p h = fresh-held p (rowOf (p .state) .abort) (abort-known (p .state) (h .known)) h
+sweep-held Start p h = refreshed-held p (p .state) (h .known) h
+sweep-held Abort p h = refreshed-held p (rowOf (p .state) .abort) (abort-known (p .state) (h .known)) h
 
 pub sweep-becomes : (k : Sweep) (p : Page) → Becomes p (unlessStrange (sweptBy k) p)
 unfolding unlessStrange

@@ -23,6 +23,7 @@ settled code p q = record { code = code; page = cond (eqb code 0) q p }
 unfoldable pub moveCode : State → ℕ
 moveCode to = firstOf (rowOf to .strange gives codes.eptEntryStateIncorrect ∷ [])
 
+-- other states 46; then stamp 0 or stamp ≥ TLB epoch is 47
 unfoldable pub leaveCode : State → ℕ → ℕ → ℕ
 leaveCode to stamp tlb =
     firstOf (rowOf to .strange gives codes.gpaRangeNotBlocked ∷ not (tracked stamp tlb) gives codes.tlbTrackingNotDone ∷ [])

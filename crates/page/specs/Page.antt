@@ -1,8 +1,8 @@
 -- One page by value: what its two words say, and what is asked of it.
 use mathlib.Core.Bool.{Bool, cond, not, _&&_, _||_}
-use Prim.Native.Nat.{ℕ, _^_}
+use Prim.Native.Nat.{ℕ}
 use lib.Dec.{eqb, ltb}
-use Rattle.words.specs.Record.{recordOf, recordWord, plain}
+use Rattle.words.specs.Record.{recordOf, recordWord, room, plain}
 use Rattle.words.specs.declared.records.Record.{Record}
 use Rattle.states.specs.States.{stateOf, numberOf}
 use Rattle.states.specs.Rows.{rowOf}
@@ -33,7 +33,7 @@ strange p = rowOf (p .state) .strange
 
 -- a record can hold the page: it is not strange, and its numbers fit their runs
 unfoldable pub held : Page → Bool
-held p = not (strange p) && (ltb (p .stamp) (2 ^ 16) && ltb (p .epoch) (2 ^ 16))
+held p = not (strange p) && (ltb (p .stamp) room && ltb (p .epoch) room)
 
 abbrev pub recordFor : Page → Record
 recordFor p =

@@ -18,15 +18,15 @@ unfoldable pub keptStamp : State → ℕ → ℕ
 keptStamp to stamp = cond (rowOf to .stamped) stamp 0
 
 -- migration epoch 0
-abbrev pub fresh : Page → State → Page
-fresh p to =
+abbrev pub refreshed : Page → State → Page
+refreshed p to =
     record { state = to; dirty = p .dirty; cached = p .cached; stamp = keptStamp to (p .stamp); epoch = 0; mark = p .mark }
 
 abbrev pub started : Page → Page
-started p = fresh p (p .state)
+started p = refreshed p (p .state)
 
 abbrev pub aborted : Page → Page
-aborted p = fresh p (rowOf (p .state) .abort)
+aborted p = refreshed p (rowOf (p .state) .abort)
 
 abbrev pub sweptBy : Sweep → Page → Page
 sweptBy Uncache p = uncached p

@@ -14,7 +14,7 @@ pub struct Step {
     pub page: Page,
 }
 
-// The state has no such move.
+// 45 where the state has no such move.
 fn move_code(to: State) -> u64
     ensures { λ r. ⌜ r ≡ moveCode to ⌝ }
 {
@@ -25,7 +25,7 @@ fn move_code(to: State) -> u64
     codes::DONE
 }
 
-// Only a blocked page can leave, and only once its old translations are gone.
+// 46 where the page is not blocked, then 47 while old translations of it may be about.
 fn leave_code(to: State, stamp: u64, tlb: u64) -> u64
     ensures { λ r. ⌜ r ≡ leaveCode to stamp tlb ⌝ }
 {
@@ -92,7 +92,7 @@ fn store_mark(p: Page, dirty: bool, mark: u64) -> Page
 }
 
 // A processor that has the translation (Cached) writes without telling anybody.
-pub fn write(p: Page, mark: u64) -> Step
+fn write(p: Page, mark: u64) -> Step
     ensures { λ r. ⌜ r ≡ writeStep p mark ⌝ }
 {
     let s = p.state;
@@ -117,7 +117,7 @@ pub fn write(p: Page, mark: u64) -> Step
     }
 }
 
-pub fn add(p: Page) -> Step
+fn add(p: Page) -> Step
     ensures { λ r. ⌜ r ≡ addStep p ⌝ }
 {
     let s = p.state;
@@ -128,7 +128,7 @@ pub fn add(p: Page) -> Step
     settle(code, p, page)
 }
 
-pub fn accept(p: Page) -> Step
+fn accept(p: Page) -> Step
     ensures { λ r. ⌜ r ≡ acceptStep p ⌝ }
 {
     let s = p.state;
@@ -139,7 +139,7 @@ pub fn accept(p: Page) -> Step
     settle(code, p, page)
 }
 
-pub fn block(p: Page, tlb: u64) -> Step
+fn block(p: Page, tlb: u64) -> Step
     ensures { λ r. ⌜ r ≡ blockStep p tlb ⌝ }
 {
     let s = p.state;
@@ -150,7 +150,7 @@ pub fn block(p: Page, tlb: u64) -> Step
     settle(code, p, page)
 }
 
-pub fn unblock(p: Page, tlb: u64) -> Step
+fn unblock(p: Page, tlb: u64) -> Step
     ensures { λ r. ⌜ r ≡ unblockStep p tlb ⌝ }
 {
     let s = p.state;
@@ -161,7 +161,7 @@ pub fn unblock(p: Page, tlb: u64) -> Step
     settle(code, p, page)
 }
 
-pub fn remove(p: Page, tlb: u64) -> Step
+fn remove(p: Page, tlb: u64) -> Step
     ensures { λ r. ⌜ r ≡ removeStep p tlb ⌝ }
 {
     let s = p.state;

@@ -53,7 +53,7 @@ pub fn gives_53(p: Page) -> bool
     row.changed | (row.sent & p.dirty)
 }
 
-// It is memory, or may be, and the destination has no copy of it.
+// It is memory of which the destination has no copy, or it is strange.
 pub fn gives_54(p: Page) -> bool
     ensures { λ r. ⌜ r ≡ gives54 p ⌝ }
 {

@@ -37,9 +37,6 @@ pub fn page_of(w: PageWords) -> Page
     }
 }
 
-// Stamps and epochs have sixteen bits in a record.
-const ROOM: u64 = 0x10000;
-
 // The words with a page in them; as they were where no record can hold it.
 pub fn write_back(w: PageWords, p: Page) -> PageWords
     ensures { λ r. ⌜ r ≡ written w p ⌝ }
@@ -50,10 +47,10 @@ pub fn write_back(w: PageWords, p: Page) -> PageWords
     if row.strange {
         return w;
     }
-    if ROOM <= p.stamp {
+    if records::ROOM <= p.stamp {
         return w;
     }
-    if ROOM <= p.epoch {
+    if records::ROOM <= p.epoch {
         return w;
     }
     let word = records::record_word(Record {

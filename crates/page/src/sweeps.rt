@@ -1,6 +1,6 @@
 // What track, start, pause and abort make of every page. A strange one stays as it is.
 ghost use mathlib.Core.Path.{_≡_};
-ghost use Rattle.page.specs.Sweeps.{uncached, keptStamp, fresh, started, aborted, sweptBy, unlessStrange, sweptWords};
+ghost use Rattle.page.specs.Sweeps.{uncached, keptStamp, refreshed, started, aborted, sweptBy, unlessStrange, sweptWords};
 use crate::Page;
 use crate::records;
 use crate::records::PageWords;
@@ -34,7 +34,7 @@ fn kept_stamp(to: State, stamp: u64) -> u64
 
 // In a state, with no trace of an earlier migration.
 fn refresh(p: Page, to: State) -> Page
-    ensures { λ r. ⌜ r ≡ fresh p to ⌝ }
+    ensures { λ r. ⌜ r ≡ refreshed p to ⌝ }
 {
     let stamp = kept_stamp(to, p.stamp);
     Page {

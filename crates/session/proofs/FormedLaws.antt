@@ -3,18 +3,20 @@ use mathlib.Core.Path.{_≡_, refl, sym, ap, _∙_}
 use mathlib.Core.Logic.{⊎-elim}
 use mathlib.Core.Bool.{Bool, true, false, not, _&&_, _||_, true≢false, false≢true}
 use mathlib.Core.List.{List, [], _∷_}
-use Prim.Native.Nat.{ℕ, zero, suc, _*_, _/_, _%_, _≤_, _<_}
+use Prim.Native.Nat.{ℕ, zero, suc, _+_, _*_, _/_, _%_, _≤_, _<_}
 use native.Mathlib.Omega.{arith}
 use native.Mathlib.Nat.{eq-or-lt-of-le, le-of-suc-le-suc}
-use lib.Dec.{eqb, leb}
-use borrow.Author.Tests.{le-leb, leb-true, eq-eqb, eqb-true, ne-eqb, eqb-false}
+use lib.Dec.{eqb, ltb, leb}
+use lib.ListN.{getD}
+use borrow.Author.Tests.{le-leb, leb-true, lt-ltb, ltb-true, eq-eqb, eqb-true, ne-eqb, eqb-false}
 use Rattle.refusals.proofs.Laws.{and-left, and-right, not-true, not-false}
 use Rattle.table.specs.Table.{legal, mostPages}
-use Rattle.session.specs.Session.{isIn, streamPlaces}
-use Rattle.session.specs.Formed.{lastEpoch, fewestCreated, mostCreated, within, every, everyFrom, numberTests, formedNumbers, streamIs, allBelow, busy, formed}
+use Rattle.session.specs.Session.{among, moving, resting, streamPlaces}
+use Rattle.session.specs.Formed.{lastEpoch, lastEntry, fewestCreated, mostCreated, within, every, everyFrom, numberTests, formedNumbers, runFormed, streamIs, allBelow, busy, formed}
 use Rattle.session.specs.declared.Phase.{Phase}
 use Rattle.session.specs.declared.Phase.the-variants.{Idle, Live, Blackout, Done}
 use Rattle.session.specs.declared.Session.{Session}
+use Rattle.session.specs.declared.streams.Run.the-variants.{Interrupted}
 use Rattle.session.specs.declared.streams.Asked.the-variants as asked
 
 -- ---- lists of tests
@@ -83,7 +85,7 @@ pub record Formed (s : Session) (len : ℕ) : Type 0 where
   -- the streams
   pub streams : (i : ℕ) → i < streamPlaces → streamIs asked.Formed s i ≡ true
 
-pub idle-is : (p : Phase) → isIn (Idle ∷ []) p ≡ true → p ≡ Idle
+pub idle-is : (p : Phase) → among (Idle ∷ []) p ≡ true → p ≡ Idle
 idle-is Idle e = refl
 idle-is Live e = absurd (false≢true e)
 idle-is Blackout e = absurd (false≢true e)
@@ -114,7 +116,7 @@ formed-means s len e =
     let e₂ = and-left ((a₁ && a₂ && a₃) && ours) numbers e₃ in
     let e₁ = and-left (a₁ && a₂ && a₃) ours e₂ in
     let h = every-hold (numberTests s) (and-right ((a₁ && a₂ && a₃) && ours) numbers e₃) in
-    let idle = isIn (Idle ∷ []) (s .phase) in
+    let idle = among (Idle ∷ []) (s .phase) in
     record {
       even = eqb-true _ _ (and-left a₁ a₂ (and-left (a₁ && a₂) a₃ e₁));
       some = eqb-false _ _ (not-true (eqb len 0) (and-right a₁ a₂ (and-left (a₁ && a₂) a₃ e₁)));
@@ -122,7 +124,7 @@ formed-means s len e =
       ours = eqb-true _ _ (and-right (a₁ && a₂ && a₃) ours e₂);
       pages = within-means _ _ _ (h .0);
       tlb = within-means _ _ _ (h .1 .0);
-      idle = λ q. eqb-true _ _ (or-right (not idle) (eqb (s .epoch) 0) (ap (λ (p : Phase). not (isIn (Idle ∷ []) p)) q) (h .1 .1 .0));
+      idle = λ q. eqb-true _ _ (or-right (not idle) (eqb (s .epoch) 0) (ap (λ (p : Phase). not (among (Idle ∷ []) p)) q) (h .1 .1 .0));
       begun = λ n. within-means _ _ _ (or-right idle (within 1 lastEpoch (s .epoch)) (not-so idle (λ y. n (idle-is (s .phase) y))) (h .1 .1 .1 .0));
       created = within-means _ _ _ (h .1 .1 .1 .1 .0);
       place = leb-true _ _ (h .1 .1 .1 .1 .1 .0);
@@ -142,7 +144,7 @@ formed-means s len e =
 pub means-formed : (s : Session) (len : ℕ) → Formed s len → formed s len ≡ true
 unfolding formed legal numberTests
 means-formed s len f =
-    let idle = isIn (Idle ∷ []) (s .phase) in
+    let idle = among (Idle ∷ []) (s .phase) in
     let numbers : formedNumbers s ≡ true
     = hold-every (numberTests s) (
       means-within _ _ _ (f .pages),
@@ -151,7 +153,7 @@ means-formed s len f =
         (
           or-other (not idle) (eqb (s .epoch) 0) (λ q. eq-eqb _ _ (f .idle (idle-is (s .phase) (not-false idle q)))),
           (
-            or-other idle (within 1 lastEpoch (s .epoch)) (λ q. means-within _ _ _ (f .begun (λ p. true≢false (sym (ap (isIn (Idle ∷ [])) p) ∙ q)))),
+            or-other idle (within 1 lastEpoch (s .epoch)) (λ q. means-within _ _ _ (f .begun (λ p. true≢false (sym (ap (among (Idle ∷ [])) p) ∙ q)))),
             (
               means-within _ _ _ (f .created),
               (
@@ -172,6 +174,48 @@ means-formed s len f =
     neither : (a b : Bool) → (a ≡ true → b ≡ false) → not (a && b) ≡ true
     neither true b g = rw (g refl)
     neither false b g = refl
+
+-- ---- streams
+
+-- a stream that is interrupted: a usable one, in Live or Blackout, with next ≤ last ≤ 511 and both counts ≤ next
+pub record Interrupts (s : Session) (i next last errors pages : ℕ) : Type 0 where
+  pub moving : among moving (s .phase) ≡ true
+  pub usable : i + 1 < s .created
+  pub ordered : next ≤ last
+  pub short : last ≤ lastEntry
+  pub few-errors : errors ≤ next
+  pub few-pages : pages ≤ next
+
+module _ (s : Session) (i next last errors pages : ℕ) (run : getD (s .streams) i resting .run ≡ Interrupted next last errors pages) where
+  abbrev a₁ : Bool
+  a₁ = among moving (s .phase)
+
+  abbrev a₂ : Bool
+  a₂ = ltb (i + 1) (s .created)
+
+  pub stream-means : streamIs asked.Formed s i ≡ true → Interrupts s i next last errors pages
+  stream-means e =
+      let f : runFormed (a₁ && a₂) (Interrupted next last errors pages) ≡ true = ap (runFormed (a₁ && a₂)) (sym run) ∙ e in
+      let b₁ = (a₁ && a₂) && leb next last in
+      let b₂ = b₁ && leb last lastEntry in
+      let b₃ = b₂ && leb errors next in
+      let e₃ = and-left b₃ (leb pages next) f in
+      let e₂ = and-left b₂ (leb errors next) e₃ in
+      let e₁ = and-left b₁ (leb last lastEntry) e₂ in
+      let e₀ = and-left (a₁ && a₂) (leb next last) e₁ in
+      record {
+        moving = and-left a₁ a₂ e₀;
+        usable = ltb-true _ _ (and-right a₁ a₂ e₀);
+        ordered = leb-true _ _ (and-right (a₁ && a₂) (leb next last) e₁);
+        short = leb-true _ _ (and-right b₁ (leb last lastEntry) e₂);
+        few-errors = leb-true _ _ (and-right b₂ (leb errors next) e₃);
+        few-pages = leb-true _ _ (and-right b₃ (leb pages next) f);
+      }
+
+  pub means-stream : Interrupts s i next last errors pages → streamIs asked.Formed s i ≡ true
+  means-stream w =
+      ap (runFormed (a₁ && a₂)) run
+      ∙ rw (w .moving, lt-ltb _ _ (w .usable), le-leb _ _ (w .ordered), le-leb _ _ (w .short), le-leb _ _ (w .few-errors), le-leb _ _ (w .few-pages)) refl
 
 -- ---- streams at rest
 

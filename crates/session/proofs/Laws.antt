@@ -5,10 +5,10 @@ use mathlib.Core.List.{List, [], _∷_}
 use Prim.Native.Nat.{ℕ, _<_}
 use lib.Dec.{eqb}
 use Rattle.words.specs.Codes as codes
-use Rattle.refusals.specs.Refusals.{Test, _gives_, firstOf}
+use Rattle.refusals.specs.Refusals.{Test, firstOf}
 use Rattle.refusals.proofs.Laws.{Passed, coded, passed, passed-code, Ends, once, ended, not-false}
-use Rattle.session.specs.Session.{isIn}
-use Rattle.session.specs.Formed.{formed, gated}
+use Rattle.session.specs.Session.{among}
+use Rattle.session.specs.Formed.{formed, gateTests, gated}
 use Rattle.session.specs.Outcome.{outcome, answered}
 use Rattle.session.specs.declared.Phase.{Phase}
 use Rattle.session.specs.declared.Session.{Session}
@@ -16,7 +16,7 @@ use Rattle.session.specs.declared.Session.{Session}
 -- the gate's code goes before a call's own tests
 pub gate-first : (s : Session) (len : ℕ) (phases : List Phase) (l : List Test) → gated s len phases l ≡ cond (eqb (gated s len phases []) 0) (firstOf l) (gated s len phases [])
 unfolding gated
-gate-first s len phases l = go (not (formed s len)) (not (isIn phases (s .phase)))
+gate-first s len phases l = go (not (formed s len)) (not (among phases (s .phase)))
   where
     go : (a b : Bool) → cond a codes.malformed (cond b codes.opStateIncorrect (firstOf l)) ≡ cond (eqb (cond a codes.malformed (cond b codes.opStateIncorrect 0)) 0) (firstOf l) (cond a codes.malformed (cond b codes.opStateIncorrect 0))
     go true b = refl
@@ -35,24 +35,21 @@ table-kept code s s' t = go (eqb code 0)
 -- behind the gate, and behind the call's own tests
 pub record Open (s : Session) (len : ℕ) (phases : List Phase) (l : List Test) : Type 0 where
   pub formed : formed s len ≡ true
-  pub comes : isIn phases (s .phase) ≡ true
+  pub comes : among phases (s .phase) ≡ true
   pub passed : Passed l
 
 module _ (s : Session) (len : ℕ) (phases : List Phase) (l : List Test) where
-  abbrev pub gateTests : List Test
-  gateTests = not (formed s len) gives codes.malformed ∷ not (isIn phases (s .phase)) gives codes.opStateIncorrect ∷ l
-
   pub gate-open : coded l ≡ true → gated s len phases l ≡ 0 → Open s len phases l
   unfolding gated
   gate-open k e =
-      let p = passed gateTests k e in
-      record { formed = not-false (formed s len) (p .0); comes = not-false (isIn phases (s .phase)) (p .1 .0); passed = p .1 .1 }
+      let p = passed (gateTests s len phases l) k e in
+      record { formed = not-false (formed s len) (p .0); comes = not-false (among phases (s .phase)) (p .1 .0); passed = p .1 .1 }
 
   pub open-gate : Open s len phases l → gated s len phases l ≡ 0
   unfolding gated
-  open-gate o = passed-code gateTests (ap not (o .formed), (ap not (o .comes), o .passed))
+  open-gate o = passed-code (gateTests s len phases l) (ap not (o .formed), (ap not (o .comes), o .passed))
 
   -- a code that is not 0 comes from the one test that has it
-  pub gate-ended : (n : ℕ) → 0 < n → once gateTests n ≡ true → gated s len phases l ≡ n → Ends gateTests n
+  pub gate-ended : (n : ℕ) → 0 < n → once (gateTests s len phases l) n ≡ true → gated s len phases l ≡ n → Ends (gateTests s len phases l) n
   unfolding gated
-  gate-ended n h k e = ended gateTests n h k e
+  gate-ended n h k e = ended (gateTests s len phases l) n h k e

@@ -7,7 +7,7 @@ use lib.ListN.{getD}
 use Rattle.words.specs.Codes as codes
 use Rattle.refusals.specs.Refusals.{Test, _gives_, firstOf}
 use Rattle.table.specs.Table.{legal, mostPages}
-use Rattle.session.specs.Session.{isIn, moving, resting, streamPlaces}
+use Rattle.session.specs.Session.{among, moving, resting, streamPlaces}
 use Rattle.session.specs.declared.Phase.{Phase}
 use Rattle.session.specs.declared.Phase.the-variants.{Idle}
 use Rattle.session.specs.declared.Session.{Session}
@@ -45,8 +45,8 @@ unfoldable pub numberTests : Session → List Bool
 numberTests s =
     within 1 mostPages (s .pages)
     ∷ within 1 lastEpoch (s .tlb)
-    ∷ (not (isIn (Idle ∷ []) (s .phase)) || eqb (s .epoch) 0)
-    ∷ (isIn (Idle ∷ []) (s .phase) || within 1 lastEpoch (s .epoch))
+    ∷ (not (among (Idle ∷ []) (s .phase)) || eqb (s .epoch) 0)
+    ∷ (among (Idle ∷ []) (s .phase) || within 1 lastEpoch (s .epoch))
     ∷ within fewestCreated mostCreated (s .created)
     ∷ leb (s .check .place) (s .pages)
     ∷ (not (s .check .complete) || eqb (s .check .place) (s .pages))
@@ -73,7 +73,7 @@ runIs asked.AtRest may r = runResting r
 
 -- index below N−1 is usable; a stream is interrupted neither in Idle nor in Done
 abbrev pub streamIs : Asked → Session → ℕ → Bool
-streamIs k s i = runIs k (isIn moving (s .phase) && ltb (i + 1) (s .created)) (getD (s .streams) i resting .run)
+streamIs k s i = runIs k (among moving (s .phase) && ltb (i + 1) (s .created)) (getD (s .streams) i resting .run)
 
 -- f holds at every number below n
 abbrev pub allBelow : (ℕ → Bool) → ℕ → Bool
@@ -89,7 +89,10 @@ busy s = not (allBelow (streamIs asked.AtRest s) streamPlaces)
 unfoldable pub formed : Session → ℕ → Bool
 formed s len = legal len && eqb (len / 2) (s .pages) && formedNumbers s && allBelow (streamIs asked.Formed s) streamPlaces
 
--- the code of a call that comes in some phases and then has tests of its own: 40, 41, and the first of these
+-- a call that comes in some phases and then has tests of its own: 40, 41, and these
+abbrev pub gateTests : Session → ℕ → List Phase → List Test → List Test
+gateTests s len phases tests =
+    not (formed s len) gives codes.malformed ∷ not (among phases (s .phase)) gives codes.opStateIncorrect ∷ tests
+
 unfoldable pub gated : Session → ℕ → List Phase → List Test → ℕ
-gated s len phases tests =
-    firstOf (not (formed s len) gives codes.malformed ∷ not (isIn phases (s .phase)) gives codes.opStateIncorrect ∷ tests)
+gated s len phases tests = firstOf (gateTests s len phases tests)

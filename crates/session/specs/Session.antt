@@ -23,9 +23,9 @@ phaseNumber Live = 1
 phaseNumber Blackout = 2
 phaseNumber Done = 3
 
-abbrev pub isIn : List Phase → Phase → Bool
-isIn [] p = false
-isIn (q ∷ l) p = eqb (phaseNumber p) (phaseNumber q) || isIn l p
+abbrev pub among : List Phase → Phase → Bool
+among [] p = false
+among (q ∷ l) p = eqb (phaseNumber p) (phaseNumber q) || among l p
 
 abbrev pub guest : List Phase
 guest = Idle ∷ Live ∷ []
@@ -42,7 +42,7 @@ phasesOf when.Moving = moving
 
 abbrev pub comesIn : Phase → Comes
 comesIn p =
-    record { guest = isIn guest p; idle = isIn (Idle ∷ []) p; live = isIn (Live ∷ []) p; blackout = isIn (Blackout ∷ []) p; moving = isIn moving p }
+    record { guest = among guest p; idle = among (Idle ∷ []) p; live = among (Live ∷ []) p; blackout = among (Blackout ∷ []) p; moving = among moving p }
 
 -- ---- sessions
 
@@ -61,8 +61,8 @@ abbrev pub atRest : List Stream
 atRest = replicate streamPlaces resting
 
 -- New: Idle, TLB epoch 1, migration epoch 0, check at page 0, neither complete nor failed, streams at rest
-abbrev pub fresh : ℕ → ℕ → Session
-fresh pages created =
+abbrev pub newSession : ℕ → ℕ → Session
+newSession pages created =
     record { phase = Idle; pages = pages; tlb = 1; epoch = 0; created = created; check = unchecked; streams = atRest }
 
 -- start and abort: check reset, streams at rest

@@ -1,7 +1,7 @@
 // The session: what a bench knows beside its table, when it is well-formed, and the gate that every call but New passes first.
 ghost use mathlib.Core.Path.{_≡_};
 ghost use mathlib.Core.List.{[]};
-ghost use Rattle.session.specs.Session.{isIn, phasesOf, comesIn, unchecked, atRest, withPhase, withEpoch, withTlb, withCheck, begun, fresh};
+ghost use Rattle.session.specs.Session.{among, phasesOf, comesIn, unchecked, withPhase, withEpoch, withTlb, withCheck, begun, newSession};
 ghost use Rattle.page.specs.Sweeps.{sweptBy};
 ghost use Rattle.session.specs.Outcome.{answeredBy};
 ghost use Rattle.session.specs.Formed.{formedNumbers, formed, gated, busy};
@@ -9,7 +9,7 @@ ghost use Rattle.session.specs.Formed.{formedNumbers, formed, gated, bus
 pub mod streams;
 
 use crate::streams::Asked;
-use crate::streams::STREAMS;
+use crate::streams::STREAM_PLACES;
 use crate::streams::Stream;
 use page::sweeps::Sweep;
 use words::codes;
@@ -35,10 +35,10 @@ pub struct Session {
     pub tlb: u64,
     // The migration epoch.
     pub epoch: u64,
-    // How many streams were created; one of them is for the lists' own traffic, so that one fewer is usable.
+    // How many streams were created, N; an index below N−1 is usable (000, 3.1.3.1).
     pub created: u64,
     pub check: Check,
-    pub streams: [Stream; STREAMS],
+    pub streams: [Stream; STREAM_PLACES],
 }
 
 // What a call answers that has no numbers of its own.
@@ -138,7 +138,7 @@ pub enum When {
 }
 
 fn is_in(w: When, p: Phase) -> bool
-    ensures { λ r. ⌜ r ≡ isIn (phasesOf w) p ⌝ }
+    ensures { λ r. ⌜ r ≡ among (phasesOf w) p ⌝ }
 {
     let comes = comes_in(p);
     match w {
@@ -188,10 +188,10 @@ fn no_check() -> Check
 
 // What New makes.
 pub fn new_session(pages: usize, created: u64) -> Session
-    ensures { λ r. ⌜ r ≡ fresh pages created ⌝ }
+    ensures { λ r. ⌜ r ≡ newSession pages created ⌝ }
 {
     let check = no_check();
-    let streams = streams::resting();
+    let streams = streams::at_rest();
     Session {
         phase: Phase::Idle,
         pages,
@@ -208,7 +208,7 @@ pub fn begin(s: Session, phase: Phase, epoch: u64) -> Session
     ensures { λ r. ⌜ r ≡ begun s phase epoch ⌝ }
 {
     let check = no_check();
-    let streams = streams::resting();
+    let streams = streams::at_rest();
     Session {
         phase,
         pages: s.pages,

@@ -20,15 +20,15 @@ pub struct Stream {
     pub run: Run,
 }
 
-pub const STREAMS: usize = 8;
+pub const STREAM_PLACES: usize = 8;
 
 // The last entry that a list can have.
 pub const LAST_ENTRY: u64 = 511;
 
-pub fn resting() -> [Stream; STREAMS]
+pub fn at_rest() -> [Stream; STREAM_PLACES]
     ensures { λ r. ⌜ r ≡ atRest ⌝ }
 {
-    [Stream { run: Run::AtRest }; STREAMS]
+    [Stream { run: Run::AtRest }; STREAM_PLACES]
 }
 
 // `may`: a stream in this place may be interrupted.
@@ -82,7 +82,7 @@ pub fn all_are(s: Session, k: Asked) -> bool
     let comes = crate::comes_in(p);
     let mut all = true;
     let mut i: usize = 0;
-    while i < STREAMS {
+    while i < STREAM_PLACES {
         let stream = s.streams[i];
         let run = stream.run;
         let may = comes.moving & (i as u64 + 1 < s.created);

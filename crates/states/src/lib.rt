@@ -78,7 +78,7 @@ pub struct Row {
     pub present: bool,
     // That copy is the page's, unless it is Dirty.
     pub sent: bool,
-    // That copy is not the page's any more.
+    // That copy may not be the page's any more.
     pub changed: bool,
     // Memory that the destination does not hold.
     pub unsent: bool,

@@ -22,12 +22,16 @@ unfoldable pub recordWord : Record → ℕ
 recordWord p =
     p .state + bit (p .dirty) * 2 ^ 8 + bit (p .cached) * 2 ^ 9 + p .spare10 * 2 ^ 10 + p .stamp * 2 ^ 16 + p .epoch * 2 ^ 32 + p .spare48 * 2 ^ 48
 
+-- a stamp and an epoch are below this
+abbrev pub room : ℕ
+room = 2 ^ 16
+
 -- each number fits its run
 pub record RecordFits (p : Record) : Type 0 where
   pub state : p .state < 2 ^ 8
   pub spare10 : p .spare10 < 2 ^ 6
-  pub stamp : p .stamp < 2 ^ 16
-  pub epoch : p .epoch < 2 ^ 16
+  pub stamp : p .stamp < room
+  pub epoch : p .epoch < room
   pub spare48 : p .spare48 < 2 ^ 16
 
 -- no spare bit is set

@@ -15,6 +15,9 @@ pub struct Record {
     pub spare48: u64,
 }
 
+// A stamp and an epoch are below this.
+pub const ROOM: u64 = 0x10000;
+
 // The word, taken apart.
 pub fn record_of(w: u64) -> Record
     ensures { λ r. ⌜ r ≡ recordOf w ⌝ }

@@ -1,5 +1,8 @@
 //! What the tests share. The rules here are written from document 01, and from nothing of the crates under test.
 
+pub mod bench;
+pub mod histories;
 pub mod program;
 pub mod random;
+pub mod scenario;
 pub mod words;

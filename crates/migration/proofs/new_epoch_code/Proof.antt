@@ -18,15 +18,15 @@ is-busy-requires c κs = search needs
 
 returns-2 : tie.Need-returns-2
 unfolding newEpochCode
-returns-2 c = rw (gate-first, ← c .before .before .before .before .gate .ensures, eq-eqb _ _ (c .before .before .before .if1 .left), ← c .before .before .is-busy .ensures, c .if2 .taken)
+returns-2 c = rw (gate-first, ← c .before .before .before .before .gate .ensures, eq-eqb _ _ (c .before .before .before .if1 .left), ← c .before .is-busy .ensures, c .if2 .taken)
 
 returns-3 : tie.Need-returns-3
 unfolding newEpochCode
-returns-3 c = rw (gate-first, ← c .before .before .before .before .before .gate .ensures, eq-eqb _ _ (c .before .before .before .before .if1 .left), ← c .before .before .before .is-busy .ensures, c .before .if2 .left, c .if3 .taken)
+returns-3 c = rw (gate-first, ← c .before .before .before .before .before .gate .ensures, eq-eqb _ _ (c .before .before .before .before .if1 .left), ← c .before .before .is-busy .ensures, c .before .if2 .left, c .if3 .taken)
 
 returns-4 : tie.Need-returns-4
 unfolding newEpochCode
-returns-4 c = rw (gate-first, ← c .before .before .before .before .before .gate .ensures, eq-eqb _ _ (c .before .before .before .before .if1 .left), ← c .before .before .before .is-busy .ensures, c .before .if2 .left, c .if3 .left)
+returns-4 c = rw (gate-first, ← c .before .before .before .before .before .gate .ensures, eq-eqb _ _ (c .before .before .before .before .if1 .left), ← c .before .before .is-busy .ensures, c .before .if2 .left, c .if3 .left)
 
 pub new-epoch-code-spec : {M : Type 1} → statement M
 new-epoch-code-spec =

@@ -6,16 +6,16 @@ use Rattle.session.proofs.new_session.Tie as tie
 no-check-requires : tie.Need-no-check-requires
 no-check-requires c κs = search needs
 
-resting-requires : tie.Need-resting-requires
-resting-requires c κs = search needs
+at-rest-requires : tie.Need-at-rest-requires
+at-rest-requires c κs = search needs
 
 returns : tie.Need-returns
-returns c = rw (c .before .no-check .ensures, c .resting .ensures)
+returns c = rw (c .before .no-check .ensures, c .at-rest .ensures)
 
 pub new-session-spec : {M : Type 1} → statement M
 new-session-spec =
     tie.close
     (tie.spec
     no-check-requires
-    resting-requires
+    at-rest-requires
     returns)

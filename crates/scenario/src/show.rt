@@ -1,0 +1,124 @@
+// What the program prints.
+use libc::STDOUT_FILENO;
+use session::Phase;
+use session::Session;
+use session::streams::Run;
+use session::streams::STREAM_PLACES;
+
+// What half a word can hold.
+const HALF: u64 = 0x1_0000_0000;
+
+// The largest prime below it.
+const PRIME: u64 = 4_294_967_291;
+
+// Bytes as they are.
+pub(crate) fn text(s: &[u8]) {
+    io::write_all(STDOUT_FILENO, s);
+}
+
+// A number behind its name.
+fn number(name: &[u8], n: u64) {
+    text(name);
+    io::print_decimal(STDOUT_FILENO, n);
+}
+
+// A word, behind a blank unless it is the first.
+fn word(first: bool, w: u64) {
+    if !first {
+        text(b" ");
+    }
+    io::print_hex(STDOUT_FILENO, w, 16);
+}
+
+// A line end, where no other text is printed.
+fn end() {
+    text(b"\n");
+}
+
+// A line of the words of the space from `from` on and before `to`.
+pub(crate) fn words(space: &[u64], from: usize, to: usize) {
+    let mut i = from;
+    while i < to {
+        if space.len() <= i {
+            break;
+        }
+        word(i == from, space[i]);
+        i += 1;
+    }
+    end();
+}
+
+// One number for all the words, so that a change anywhere shows.
+fn digest(space: &[u64]) -> u64 {
+    let mut d: u64 = 0;
+    let mut i: usize = 0;
+    while i < space.len() {
+        let w = space[i];
+        d = (d * 65_599 + w % HALF * 31 + w / HALF) % PRIME;
+        i += 1;
+    }
+    d
+}
+
+// A phase in the order of document 01.
+fn number_of(p: Phase) -> u64 {
+    match p {
+        Phase::Idle => 0,
+        Phase::Live => 1,
+        Phase::Blackout => 2,
+        Phase::Done => 3,
+    }
+}
+
+// What a stream is doing.
+fn run(r: Run) {
+    match r {
+        Run::AtRest => text(b" -"),
+        Run::Interrupted {
+            next,
+            last,
+            errors,
+            pages,
+        } => {
+            number(b" ", next);
+            number(b"/", last);
+            number(b"/", errors);
+            number(b"/", pages);
+        }
+    }
+}
+
+// All the streams.
+fn streams(s: Session) {
+    text(b" streams");
+    let mut i: usize = 0;
+    while i < STREAM_PLACES {
+        let stream = s.streams[i];
+        let r = stream.run;
+        run(r);
+        i += 1;
+    }
+}
+
+// Every field of the session.
+fn session(s: Session) {
+    let phase = s.phase;
+    number(b" phase ", number_of(phase));
+    number(b" pages ", s.pages as u64);
+    number(b" tlb ", s.tlb);
+    number(b" epoch ", s.epoch);
+    number(b" created ", s.created);
+    number(b" place ", s.check.place as u64);
+    number(b" complete ", s.check.complete as u64);
+    number(b" failed ", s.check.failed as u64);
+    streams(s);
+}
+
+// A line of what a call answered, the session that it gave back, and the digest of the whole space.
+pub(crate) fn returned(code: u64, page: usize, s: Session, space: &[u64]) {
+    number(b"code ", code);
+    number(b" page ", page as u64);
+    session(s);
+    number(b" table ", digest(space));
+    end();
+}

@@ -1,0 +1,106 @@
+//! 'Session calls'.
+
+use super::codes::*;
+use super::record::{change_all, records, Record};
+use super::session::{Check, Phase, Session};
+use super::{refusal, Answer, LAST_EPOCH};
+
+/// What start and abort leave of a record: no migration epoch, and a stamp in 1 and 3 alone.
+fn outside_epochs(record: Record) -> Record {
+    let stamp = if matches!(record.state, 1 | 3) { record.stamp } else { 0 };
+    Record { stamp, epoch: 0, ..record }
+}
+
+pub fn start(session: &mut Session, table: &mut [u64]) -> Answer {
+    if let Some(code) = refusal(session, table, &[Phase::Idle]) {
+        return Answer::plain(code);
+    }
+    if !records(table).all(|record| matches!(record, Some(r) if r.state <= 4)) {
+        return Answer::plain(EPT_ENTRY_STATE_INCORRECT);
+    }
+    change_all(table, outside_epochs);
+    session.phase = Phase::Live;
+    session.epoch = 1;
+    session.check = Check::RESET;
+    session.streams = Session::STREAMS_AT_REST;
+    Answer::plain(DONE)
+}
+
+pub fn pause(session: &mut Session, table: &mut [u64]) -> Answer {
+    if let Some(code) = refusal(session, table, &[Phase::Live]) {
+        return Answer::plain(code);
+    }
+    if records(table).flatten().any(|record| matches!(record.state, 1 | 3 | 26 | 31)) {
+        return Answer::plain(BLOCKED_MEMORY_EXISTS);
+    }
+    if session.busy() {
+        return Answer::plain(OPERAND_BUSY);
+    }
+    change_all(table, |record| Record { cached: false, ..record });
+    session.phase = Phase::Blackout;
+    Answer::plain(DONE)
+}
+
+pub fn abort(session: &mut Session, table: &mut [u64]) -> Answer {
+    if let Some(code) = refusal(session, table, &[Phase::Live, Phase::Blackout]) {
+        return Answer::plain(code);
+    }
+    change_all(table, |record| {
+        let state = match record.state {
+            24 | 25 => 4,
+            29 | 30 => 2,
+            26 => 1,
+            31 => 3,
+            27 => 0,
+            state => state,
+        };
+        outside_epochs(Record { state, ..record })
+    });
+    session.phase = Phase::Idle;
+    session.epoch = 0;
+    session.streams = Session::STREAMS_AT_REST;
+    session.check = Check::RESET;
+    Answer::plain(DONE)
+}
+
+pub fn new_epoch(session: &mut Session, table: &mut [u64]) -> Answer {
+    if let Some(code) = refusal(session, table, &[Phase::Live, Phase::Blackout]) {
+        return Answer::plain(code);
+    }
+    if session.busy() {
+        return Answer::plain(OPERAND_BUSY);
+    }
+    if session.epoch == LAST_EPOCH {
+        return Answer::plain(MIGRATION_EPOCH_OVERFLOW);
+    }
+    session.epoch += 1;
+    Answer::plain(DONE)
+}
+
+pub fn start_token(session: &mut Session, table: &mut [u64]) -> Answer {
+    if let Some(code) = refusal(session, table, &[Phase::Blackout]) {
+        return Answer::plain(code);
+    }
+    if session.busy() {
+        return Answer::plain(OPERAND_BUSY);
+    }
+    if !session.check.complete {
+        return Answer::plain(MEM_SCAN_DCHECK_NOT_DONE);
+    }
+    let dirty = |record: Option<Record>| match record {
+        Some(r) => matches!(r.state, 25 | 26 | 27 | 30 | 31) || matches!(r.state, 24 | 29) && r.dirty,
+        None => false,
+    };
+    let unexported = |record: Option<Record>| match record {
+        Some(r) => matches!(r.state, 1..=4),
+        None => true,
+    };
+    if let Some(page) = records(table).position(dirty) {
+        return Answer { code: EXPORTED_DIRTY_PAGES_REMAIN, page: page as u64 };
+    }
+    if let Some(page) = records(table).position(unexported) {
+        return Answer { code: UNEXPORTED_MEMORY_REMAINS, page: page as u64 };
+    }
+    session.phase = Phase::Done;
+    Answer::plain(DONE)
+}

@@ -1,0 +1,247 @@
+//! Scenarios that nobody wrote: lines for the program `scenario`, at random.
+
+use crate::bench::record::{Record, BASE};
+use crate::bench::session::Phase;
+use crate::bench::MOST_WORDS;
+use crate::random::Random;
+use crate::scenario::{Scenario, SPACE};
+
+/// The words of the calls.
+pub const CALLS: [&str; 14] = [
+    "new", "write", "add", "accept", "block", "unblock", "remove", "track", "start", "pause", "abort", "newepoch",
+    "reset", "token",
+];
+
+/// Numbers at the bounds of some field, and far beyond all of them.
+const BOUNDS: [u64; 22] = [
+    0, 1, 2, 3, 4, 5, 7, 8, 9, 10, 511, 512, 4_095, 4_096, 4_097, 65_534, 65_535, 65_536, 1 << 32, 1 << 48, 1 << 63,
+    u64::MAX,
+];
+
+/// The session's fields that may be any number.
+const NUMBERS: [&str; 5] = ["pages", "tlb", "epoch", "created", "place"];
+
+/// At least `length` lines: histories from New, well-formed sessions over any records, such sessions with one field changed, and anything at all.
+pub fn random_scenario(seed: u64, length: usize) -> String {
+    let random = &mut Random::new(seed);
+    let mut history = History { scenario: Scenario::default(), lines: Vec::new(), pages: 1 };
+    while history.lines.len() < length {
+        history.pages = if random.one_in(10) { MOST_WORDS as u64 / 2 } else { 1 + random.below(4) };
+        match random.below(8) {
+            0 | 1 => history.after_new(random),
+            2..=4 => history.handed(random),
+            5 | 6 => history.damaged(random),
+            _ => history.anything(random),
+        }
+    }
+    history.lines.join("\n") + "\n"
+}
+
+/// A scenario in the making. The predictor goes along, so that lines can fit where the scenario stands.
+struct History {
+    scenario: Scenario,
+    lines: Vec<String>,
+    /// The page count of the guest at hand, whatever the session says.
+    pages: u64,
+}
+
+impl History {
+    fn say(&mut self, line: String) {
+        self.scenario.line(&line);
+        self.lines.push(line);
+    }
+
+    /// A guest's life and migration, in which the host pokes what calls with a list would do.
+    fn after_new(&mut self, random: &mut Random) {
+        self.say(format!("lend {}", 2 * self.pages));
+        self.say(format!("new {}", 2 + random.below(8)));
+        for page in self.some_pages() {
+            self.say(format!("add {page}"));
+            self.say(format!("accept {page}"));
+        }
+        for _ in 0..60 {
+            let phase = self.scenario.session.phase;
+            match random.below(30) {
+                0 | 1 => {
+                    let page = random.pick(&self.some_pages());
+                    self.poke(random, page);
+                }
+                2..=5 if phase == Phase::Blackout => self.towards_the_token(random),
+                6 => self.interrupt(random),
+                7..=9 if phase != Phase::Idle => (0..8).for_each(|index| self.say(format!("rest {index}"))),
+                10 if random.one_in(4) => self.say(format!("tlb {}", random.pick(&[65_534, 65_535]))),
+                11 if phase != Phase::Idle && random.one_in(4) => self.say("epoch 65534".to_owned()),
+                _ => self.fitting_call(random),
+            }
+        }
+    }
+
+    /// A well-formed session over any records, whether a history reaches it or not.
+    fn handed(&mut self, random: &mut Random) {
+        self.well_formed(random);
+        self.some_pages().into_iter().for_each(|page| self.poke(random, page));
+        for _ in 0..1 + random.below(4) {
+            self.any_call(random);
+        }
+    }
+
+    /// A well-formed session with one field changed, often beyond its range.
+    fn damaged(&mut self, random: &mut Random) {
+        for _ in 0..4 {
+            self.well_formed(random);
+            let check = self.scenario.session.check;
+            let line = match random.below(12) {
+                0 => format!("lend {}", random.pick(&[0, 1, 2 * self.pages + 1, 2 * self.pages + 2, 8_193, 8_194])),
+                1 => format!("phase {}", random.below(4)),
+                2 => format!("complete {}", !check.complete as u64),
+                3 => format!("failed {}", !check.failed as u64),
+                4 => format!("place {}", self.pages + random.below(2)),
+                5..=7 => near_a_stream(random),
+                _ => format!("{} {}", random.pick(&NUMBERS), random.pick(&BOUNDS)),
+            };
+            self.say(line);
+            self.any_call(random);
+        }
+    }
+
+    /// Any numbers anywhere.
+    fn anything(&mut self, random: &mut Random) {
+        for field in ["lend", "phase", "pages", "tlb", "epoch", "created", "place", "complete", "failed", "rest"] {
+            if random.one_in(2) {
+                self.say(format!("{field} {}", random.pick(&BOUNDS)));
+            }
+        }
+        self.say(near_a_stream(random));
+        for _ in 0..4 {
+            self.say(format!("word {} {}", random.below(SPACE as u64 + 2), random.uneven_word()));
+            self.any_call(random);
+        }
+        let from = random.below(SPACE as u64);
+        self.say(format!("show {from} {}", from + random.below(20)));
+    }
+
+    fn well_formed(&mut self, random: &mut Random) {
+        let phase = random.below(4);
+        let complete = random.one_in(2);
+        self.say(format!("lend {}", 2 * self.pages));
+        self.say(format!("phase {phase}"));
+        self.say(format!("pages {}", self.pages));
+        self.say(format!("tlb {}", random.pick(&[1, 2, 3, 4, 65_534, 65_535])));
+        self.say(format!("epoch {}", if phase == 0 { 0 } else { random.pick(&[1, 2, 3, 65_534, 65_535]) }));
+        self.say(format!("created {}", 2 + random.below(8)));
+        self.say(format!("place {}", if complete { self.pages } else { random.below(self.pages + 1) }));
+        self.say(format!("complete {}", complete as u64));
+        self.say(format!("failed {}", (!complete && random.one_in(2)) as u64));
+        for index in 0..8 {
+            self.say(format!("rest {index}"));
+        }
+        if random.one_in(4) {
+            self.interrupt(random);
+        }
+    }
+
+    /// Interrupts a usable stream, where one may be.
+    fn interrupt(&mut self, random: &mut Random) {
+        if matches!(self.scenario.session.phase, Phase::Live | Phase::Blackout) {
+            let index = random.below(self.scenario.session.created - 1);
+            let last = random.below(512);
+            let next = random.below(last + 1);
+            let (errors, data) = (random.below(next + 1), random.below(next + 1));
+            self.say(format!("stream {index} {next} {last} {errors} {data}"));
+        }
+    }
+
+    /// All pages of a small guest, and a few of a large one.
+    fn some_pages(&self) -> Vec<u64> {
+        match self.pages {
+            0..=4 => (0..self.pages).collect(),
+            pages => vec![0, 1, pages / 2, pages - 2, pages - 1],
+        }
+    }
+
+    fn poke(&mut self, random: &mut Random, page: u64) {
+        let session = self.scenario.session;
+        let stamps = [0, 1, session.tlb.saturating_sub(1), session.tlb, 65_535.min(session.tlb + 1), 65_535];
+        let state = match random.below(12) {
+            0 => random.below(256),
+            // The states that start takes.
+            _ if session.phase == Phase::Idle => random.below(5),
+            _ => random.pick(&BASE),
+        };
+        let record = Record {
+            state,
+            dirty: random.one_in(2),
+            cached: random.one_in(2),
+            stamp: random.pick(&stamps),
+            epoch: random.pick(&[0, session.epoch, 65_535]),
+        };
+        let spare = match random.below(16) {
+            0 => 1 << (10 + random.below(6)),
+            1 => 1 << (48 + random.below(16)),
+            _ => 0,
+        };
+        self.say(format!("word {} {}", 2 * page, record.word() | spare));
+        self.say(format!("word {} {}", 2 * page + 1, random.uneven_word()));
+    }
+
+    /// What the token asks of pages and check, but for some pages, and the token.
+    fn towards_the_token(&mut self, random: &mut Random) {
+        for page in self.some_pages() {
+            if random.one_in(4) {
+                self.poke(random, page);
+            } else {
+                self.say(format!("word {} {}", 2 * page, random.pick(&[0, 24, 29])));
+            }
+        }
+        self.say(format!("place {}", self.pages));
+        self.say("failed 0".to_owned());
+        self.say("complete 1".to_owned());
+        self.say("token".to_owned());
+    }
+
+    /// A call that the phase is for, mostly.
+    fn fitting_call(&mut self, random: &mut Random) {
+        const GUEST: [&str; 9] = ["write", "write", "add", "accept", "accept", "block", "unblock", "remove", "track"];
+        let fitting: &[&str] = match self.scenario.session.phase {
+            Phase::Idle => &["start"],
+            Phase::Live => &["newepoch", "reset", "pause", "pause"],
+            Phase::Blackout => &["newepoch", "reset", "abort", "token", "token", "token"],
+            Phase::Done => &["new"],
+        };
+        let guest = matches!(self.scenario.session.phase, Phase::Idle | Phase::Live) && !random.one_in(6);
+        let word = match random.below(12) {
+            0 => random.pick(&CALLS[1..]),
+            _ if guest => random.pick(&GUEST),
+            _ => random.pick(fitting),
+        };
+        self.call(random, word);
+    }
+
+    fn any_call(&mut self, random: &mut Random) {
+        let word = random.pick(&CALLS);
+        self.call(random, word);
+    }
+
+    fn call(&mut self, random: &mut Random, word: &str) {
+        let page = match random.below(16) {
+            0 => random.pick(&BOUNDS),
+            1 => self.pages,
+            _ => random.pick(&self.some_pages()),
+        };
+        self.say(match word {
+            "new" => format!("new {}", if random.one_in(4) { random.pick(&BOUNDS) } else { 2 + random.below(8) }),
+            "write" => format!("write {page} {}", random.uneven_word()),
+            "add" | "accept" | "block" | "unblock" | "remove" => format!("{word} {page}"),
+            _ => word.to_owned(),
+        });
+    }
+}
+
+/// An interrupted stream with numbers next to their bounds, on either side.
+fn near_a_stream(random: &mut Random) -> String {
+    let last = random.pick(&[0, 1, 5, 511, 512, u64::MAX]);
+    let mut near = |n: u64| n.saturating_add(random.below(3)).saturating_sub(1);
+    let next = near(last);
+    let (errors, data) = (near(next), near(next));
+    format!("stream {} {next} {last} {errors} {data}", random.below(9))
+}
