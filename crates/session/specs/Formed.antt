@@ -41,6 +41,7 @@ abbrev pub every : List Bool → Bool
 every [] = true
 every (b ∷ l) = everyFrom b l
 
+-- the ranges, the migration epoch being 0 in Idle and else 1 to 65,535; then the check: its place, where it is complete, and not complete and failed at once
 unfoldable pub numberTests : Session → List Bool
 numberTests s =
     within 1 mostPages (s .pages)

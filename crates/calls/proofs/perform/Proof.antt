@@ -133,67 +133,100 @@ same-length : tie.Need-same-length
 same-length c = search needs
 
 returns : tie.Need-returns
-returns c = rw (c .before .before .before .before .before .before .call .given .1) (c .without-page .ensures ∙ ap plainly (c .before .before .before .new .ensures .0), c .before .before .before .new .ensures .1)
+returns c =
+    let at-new = c .before .before .before in
+    let at-call = at-new .before .before .before in
+    rw (at-call .call .given .1) (c .without-page .ensures ∙ ap plainly (at-new .new .ensures .0), at-new .new .ensures .1)
 
 same-length-2 : tie.Need-same-length-2
 same-length-2 c = search needs
 
 returns-2 : tie.Need-returns-2
-returns-2 c = rw (c .before .before .before .before .before .before .call2 .given .1) (c .without-page2 .ensures ∙ ap plainly (c .before .before .before .write .ensures .0), c .before .before .before .write .ensures .1)
+returns-2 c =
+    let at-write = c .before .before .before in
+    let at-call2 = at-write .before .before .before in
+    rw (at-call2 .call2 .given .1) (c .without-page2 .ensures ∙ ap plainly (at-write .write .ensures .0), at-write .write .ensures .1)
 
 same-length-3 : tie.Need-same-length-3
 same-length-3 c = search needs
 
 returns-3 : tie.Need-returns-3
-returns-3 c = rw (c .before .before .before .before .before .before .call3 .given .1) (c .without-page3 .ensures ∙ ap plainly (c .before .before .before .add .ensures .0), c .before .before .before .add .ensures .1)
+returns-3 c =
+    let at-add = c .before .before .before in
+    let at-call3 = at-add .before .before .before in
+    rw (at-call3 .call3 .given .1) (c .without-page3 .ensures ∙ ap plainly (at-add .add .ensures .0), at-add .add .ensures .1)
 
 same-length-4 : tie.Need-same-length-4
 same-length-4 c = search needs
 
 returns-4 : tie.Need-returns-4
-returns-4 c = rw (c .before .before .before .before .before .before .call4 .given .1) (c .without-page4 .ensures ∙ ap plainly (c .before .before .before .accept .ensures .0), c .before .before .before .accept .ensures .1)
+returns-4 c =
+    let at-accept = c .before .before .before in
+    let at-call4 = at-accept .before .before .before in
+    rw (at-call4 .call4 .given .1) (c .without-page4 .ensures ∙ ap plainly (at-accept .accept .ensures .0), at-accept .accept .ensures .1)
 
 same-length-5 : tie.Need-same-length-5
 same-length-5 c = search needs
 
 returns-5 : tie.Need-returns-5
-returns-5 c = rw (c .before .before .before .before .before .before .call5 .given .1) (c .without-page5 .ensures ∙ ap plainly (c .before .before .before .block .ensures .0), c .before .before .before .block .ensures .1)
+returns-5 c =
+    let at-block = c .before .before .before in
+    let at-call5 = at-block .before .before .before in
+    rw (at-call5 .call5 .given .1) (c .without-page5 .ensures ∙ ap plainly (at-block .block .ensures .0), at-block .block .ensures .1)
 
 same-length-6 : tie.Need-same-length-6
 same-length-6 c = search needs
 
 returns-6 : tie.Need-returns-6
-returns-6 c = rw (c .before .before .before .before .before .before .call6 .given .1) (c .without-page6 .ensures ∙ ap plainly (c .before .before .before .unblock .ensures .0), c .before .before .before .unblock .ensures .1)
+returns-6 c =
+    let at-unblock = c .before .before .before in
+    let at-call6 = at-unblock .before .before .before in
+    rw (at-call6 .call6 .given .1) (c .without-page6 .ensures ∙ ap plainly (at-unblock .unblock .ensures .0), at-unblock .unblock .ensures .1)
 
 same-length-7 : tie.Need-same-length-7
 same-length-7 c = search needs
 
 returns-7 : tie.Need-returns-7
-returns-7 c = rw (c .before .before .before .before .before .before .call7 .given .1) (c .without-page7 .ensures ∙ ap plainly (c .before .before .before .remove .ensures .0), c .before .before .before .remove .ensures .1)
+returns-7 c =
+    let at-remove = c .before .before .before in
+    let at-call7 = at-remove .before .before .before in
+    rw (at-call7 .call7 .given .1) (c .without-page7 .ensures ∙ ap plainly (at-remove .remove .ensures .0), at-remove .remove .ensures .1)
 
 same-length-8 : tie.Need-same-length-8
 same-length-8 c = search needs
 
 returns-8 : tie.Need-returns-8
-returns-8 c = rw (c .before .before .before .before .before .enum-told .given .1) (c .without-page8 .ensures ∙ ap plainly (c .before .before .before .track .ensures .0), c .before .before .before .track .ensures .1)
+returns-8 c =
+    let at-track = c .before .before .before in
+    let at-enum-told = at-track .before .before in
+    rw (at-enum-told .enum-told .given .1) (c .without-page8 .ensures ∙ ap plainly (at-track .track .ensures .0), at-track .track .ensures .1)
 
 same-length-9 : tie.Need-same-length-9
 same-length-9 c = search needs
 
 returns-9 : tie.Need-returns-9
-returns-9 c = rw (c .before .before .before .before .before .enum-told2 .given .1) (c .without-page9 .ensures ∙ ap plainly (c .before .before .before .start .ensures .0), c .before .before .before .start .ensures .1)
+returns-9 c =
+    let at-start = c .before .before .before in
+    let at-enum-told2 = at-start .before .before in
+    rw (at-enum-told2 .enum-told2 .given .1) (c .without-page9 .ensures ∙ ap plainly (at-start .start .ensures .0), at-start .start .ensures .1)
 
 same-length-10 : tie.Need-same-length-10
 same-length-10 c = search needs
 
 returns-10 : tie.Need-returns-10
-returns-10 c = rw (c .before .before .before .before .before .enum-told3 .given .1) (c .without-page10 .ensures ∙ ap plainly (c .before .before .before .pause .ensures .0), c .before .before .before .pause .ensures .1)
+returns-10 c =
+    let at-pause = c .before .before .before in
+    let at-enum-told3 = at-pause .before .before in
+    rw (at-enum-told3 .enum-told3 .given .1) (c .without-page10 .ensures ∙ ap plainly (at-pause .pause .ensures .0), at-pause .pause .ensures .1)
 
 same-length-11 : tie.Need-same-length-11
 same-length-11 c = search needs
 
 returns-11 : tie.Need-returns-11
-returns-11 c = rw (c .before .before .before .before .before .enum-told4 .given .1) (c .without-page11 .ensures ∙ ap plainly (c .before .before .before .abort .ensures .0), c .before .before .before .abort .ensures .1)
+returns-11 c =
+    let at-abort = c .before .before .before in
+    let at-enum-told4 = at-abort .before .before in
+    rw (at-enum-told4 .enum-told4 .given .1) (c .without-page11 .ensures ∙ ap plainly (at-abort .abort .ensures .0), at-abort .abort .ensures .1)
 
 same-length-12 : tie.Need-same-length-12
 same-length-12 c = search needs

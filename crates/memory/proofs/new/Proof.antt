@@ -25,7 +25,11 @@ same-length c = search needs
 
 returns-2 : tie.Need-returns-2
 unfolding newOut answered
-returns-2 c = rw (← c .before .before .before .before .before .before .new-code .ensures, eq-eqb _ _ (c .before .before .before .before .before .if1 .left), ← c .new-session .ensures) (refl, c .before .before .before .clear .ensures)
+returns-2 c =
+    let at-clear = c .before .before .before in
+    let at-if1 = at-clear .before .before in
+    let at-new-code = at-if1 .before in
+    rw (← at-new-code .new-code .ensures, eq-eqb _ _ (at-if1 .if1 .left), ← c .new-session .ensures) (refl, at-clear .clear .ensures)
 
 pub new-spec : {M : Type 1} → statement M
 new-spec =

@@ -21,7 +21,12 @@ same-length c = search needs
 
 returns : tie.Need-returns
 unfolding onPage answered
-returns c = rw (← c .before .before .before .before .before .before .before .load .ensures, ← c .before .before .before .before .before .before .on-words .ensures, eq-eqb _ _ (c .before .before .before .before .if1 .taken)) (refl, c .before .before .store .ensures)
+returns c =
+    let at-store = c .before .before in
+    let at-if1 = at-store .before .before in
+    let at-on-words = at-if1 .before .before in
+    let at-load = at-on-words .before in
+    rw (← at-load .load .ensures, ← at-on-words .on-words .ensures, eq-eqb _ _ (at-if1 .if1 .taken)) (refl, at-store .store .ensures)
 
 same-length-2 : tie.Need-same-length-2
 same-length-2 c = search needs

@@ -17,23 +17,52 @@ is-formed-requires c κs = search needs
 
 returns : tie.Need-returns
 unfolding pageCode
-returns c = rw (← c .before .before .before .before .is-formed .ensures, ← c .before .before .before .before .before .is-block .ensures, ← ap (λ (x : Comes). x .blackout) (c .before .before .before .before .before .before .comes-in .ensures), ← ap (λ (x : Comes). x .guest) (c .before .before .before .before .before .before .comes-in .ensures), c .if1 .taken)
+returns c =
+    let at-is-formed = c .before .before .before .before in
+    let at-is-block = at-is-formed .before in
+    let at-comes-in = at-is-block .before in
+    rw (← at-is-formed .is-formed .ensures, ← at-is-block .is-block .ensures, ← ap (λ (x : Comes). x .blackout) (at-comes-in .comes-in .ensures), ← ap (λ (x : Comes). x .guest) (at-comes-in .comes-in .ensures), c .if1 .taken)
 
 returns-2 : tie.Need-returns-2
 unfolding pageCode
-returns-2 c = rw (← c .before .before .before .before .before .is-formed .ensures, ← c .before .before .before .before .before .before .is-block .ensures, ← ap (λ (x : Comes). x .blackout) (c .before .before .before .before .before .before .before .comes-in .ensures), ← ap (λ (x : Comes). x .guest) (c .before .before .before .before .before .before .before .comes-in .ensures), c .before .if1 .left, c .if2 .taken)
+returns-2 c =
+    let at-if1 = c .before in
+    let at-is-formed = at-if1 .before .before .before .before in
+    let at-is-block = at-is-formed .before in
+    let at-comes-in = at-is-block .before in
+    rw (← at-is-formed .is-formed .ensures, ← at-is-block .is-block .ensures, ← ap (λ (x : Comes). x .blackout) (at-comes-in .comes-in .ensures), ← ap (λ (x : Comes). x .guest) (at-comes-in .comes-in .ensures), at-if1 .if1 .left, c .if2 .taken)
 
 returns-3 : tie.Need-returns-3
 unfolding pageCode
-returns-3 c = rw (← c .before .before .before .before .before .before .is-formed .ensures, ← c .before .before .before .before .before .before .before .is-block .ensures, ← ap (λ (x : Comes). x .blackout) (c .before .before .before .before .before .before .before .before .comes-in .ensures), ← ap (λ (x : Comes). x .guest) (c .before .before .before .before .before .before .before .before .comes-in .ensures), c .before .before .if1 .left, c .before .if2 .left, c .if3 .taken)
+returns-3 c =
+    let at-if2 = c .before in
+    let at-if1 = at-if2 .before in
+    let at-is-formed = at-if1 .before .before .before .before in
+    let at-is-block = at-is-formed .before in
+    let at-comes-in = at-is-block .before in
+    rw (← at-is-formed .is-formed .ensures, ← at-is-block .is-block .ensures, ← ap (λ (x : Comes). x .blackout) (at-comes-in .comes-in .ensures), ← ap (λ (x : Comes). x .guest) (at-comes-in .comes-in .ensures), at-if1 .if1 .left, at-if2 .if2 .left, c .if3 .taken)
 
 returns-4 : tie.Need-returns-4
 unfolding pageCode
-returns-4 c = rw (← c .before .before .before .before .before .before .before .is-formed .ensures, ← c .before .before .before .before .before .before .before .before .is-block .ensures, ← ap (λ (x : Comes). x .blackout) (c .before .before .before .before .before .before .before .before .before .comes-in .ensures), ← ap (λ (x : Comes). x .guest) (c .before .before .before .before .before .before .before .before .before .comes-in .ensures), c .before .before .before .if1 .left, c .before .before .if2 .left, c .before .if3 .left, c .if4 .taken)
+returns-4 c =
+    let at-if3 = c .before in
+    let at-if2 = at-if3 .before in
+    let at-if1 = at-if2 .before in
+    let at-is-formed = at-if1 .before .before .before .before in
+    let at-is-block = at-is-formed .before in
+    let at-comes-in = at-is-block .before in
+    rw (← at-is-formed .is-formed .ensures, ← at-is-block .is-block .ensures, ← ap (λ (x : Comes). x .blackout) (at-comes-in .comes-in .ensures), ← ap (λ (x : Comes). x .guest) (at-comes-in .comes-in .ensures), at-if1 .if1 .left, at-if2 .if2 .left, at-if3 .if3 .left, c .if4 .taken)
 
 returns-5 : tie.Need-returns-5
 unfolding pageCode
-returns-5 c = rw (← c .before .before .before .before .before .before .before .is-formed .ensures, ← c .before .before .before .before .before .before .before .before .is-block .ensures, ← ap (λ (x : Comes). x .blackout) (c .before .before .before .before .before .before .before .before .before .comes-in .ensures), ← ap (λ (x : Comes). x .guest) (c .before .before .before .before .before .before .before .before .before .comes-in .ensures), c .before .before .before .if1 .left, c .before .before .if2 .left, c .before .if3 .left, c .if4 .left)
+returns-5 c =
+    let at-if3 = c .before in
+    let at-if2 = at-if3 .before in
+    let at-if1 = at-if2 .before in
+    let at-is-formed = at-if1 .before .before .before .before in
+    let at-is-block = at-is-formed .before in
+    let at-comes-in = at-is-block .before in
+    rw (← at-is-formed .is-formed .ensures, ← at-is-block .is-block .ensures, ← ap (λ (x : Comes). x .blackout) (at-comes-in .comes-in .ensures), ← ap (λ (x : Comes). x .guest) (at-comes-in .comes-in .ensures), at-if1 .if1 .left, at-if2 .if2 .left, at-if3 .if3 .left, c .if4 .left)
 
 pub page-code-spec : {M : Type 1} → statement M
 page-code-spec =

@@ -26,7 +26,11 @@ same-length c = search needs
 
 returns : tie.Need-returns
 unfolding trackOut
-returns c = rw (← c .before .before .before .before .before .before .before .track-code .ensures, ← c .before .before .before .before .with-tlb .ensures) (c .before .before .finish .ensures)
+returns c =
+    let at-finish = c .before .before in
+    let at-with-tlb = at-finish .before .before in
+    let at-track-code = at-with-tlb .before .before .before in
+    rw (← at-track-code .track-code .ensures, ← at-with-tlb .with-tlb .ensures) (at-finish .finish .ensures)
 
 returns-2 : tie.Need-returns-2
 unfolding trackOut answered

@@ -18,7 +18,11 @@ same-length c = search needs
 
 returns : tie.Need-returns
 unfolding abortOut abortCode
-returns c = rw (← c .before .before .before .before .before .gate .ensures, ← c .before .before .before .before .begin .ensures) (c .before .before .finish .ensures)
+returns c =
+    let at-finish = c .before .before in
+    let at-begin = at-finish .before .before in
+    let at-gate = at-begin .before in
+    rw (← at-gate .gate .ensures, ← at-begin .begin .ensures) (at-finish .finish .ensures)
 
 pub abort-spec : {M : Type 1} → statement M
 abort-spec =

@@ -18,7 +18,11 @@ same-length c = search needs
 
 returns : tie.Need-returns
 unfolding pauseOut
-returns c = rw (← c .before .before .before .before .before .pause-code .ensures, ← c .before .before .before .before .with-phase .ensures) (c .before .before .finish .ensures)
+returns c =
+    let at-finish = c .before .before in
+    let at-with-phase = at-finish .before .before in
+    let at-pause-code = at-with-phase .before in
+    rw (← at-pause-code .pause-code .ensures, ← at-with-phase .with-phase .ensures) (at-finish .finish .ensures)
 
 pub pause-spec : {M : Type 1} → statement M
 pause-spec =

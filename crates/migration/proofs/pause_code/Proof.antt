@@ -25,11 +25,23 @@ returns-2 c = rw (gate-first, ← c .before .before .before .before .gate .ensur
 
 returns-3 : tie.Need-returns-3
 unfolding pauseCode
-returns-3 c = rw (gate-first, ← c .before .before .before .before .before .gate .ensures, eq-eqb _ _ (c .before .before .before .before .if1 .left), ← c .before .before .has .ensures, ← c .before .before .before .is-busy .ensures, c .before .if2 .left, c .if3 .taken)
+returns-3 c =
+    let at-if2 = c .before in
+    let at-has = at-if2 .before in
+    let at-is-busy = at-has .before in
+    let at-if1 = at-is-busy .before in
+    let at-gate = at-if1 .before in
+    rw (gate-first, ← at-gate .gate .ensures, eq-eqb _ _ (at-if1 .if1 .left), ← at-has .has .ensures, ← at-is-busy .is-busy .ensures, at-if2 .if2 .left, c .if3 .taken)
 
 returns-4 : tie.Need-returns-4
 unfolding pauseCode
-returns-4 c = rw (gate-first, ← c .before .before .before .before .before .gate .ensures, eq-eqb _ _ (c .before .before .before .before .if1 .left), ← c .before .before .has .ensures, ← c .before .before .before .is-busy .ensures, c .before .if2 .left, c .if3 .left)
+returns-4 c =
+    let at-if2 = c .before in
+    let at-has = at-if2 .before in
+    let at-is-busy = at-has .before in
+    let at-if1 = at-is-busy .before in
+    let at-gate = at-if1 .before in
+    rw (gate-first, ← at-gate .gate .ensures, eq-eqb _ _ (at-if1 .if1 .left), ← at-has .has .ensures, ← at-is-busy .is-busy .ensures, at-if2 .if2 .left, c .if3 .left)
 
 pub pause-code-spec : {M : Type 1} → statement M
 pause-code-spec =

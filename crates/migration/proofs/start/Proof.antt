@@ -18,7 +18,11 @@ same-length c = search needs
 
 returns : tie.Need-returns
 unfolding startOut
-returns c = rw (← c .before .before .before .before .before .start-code .ensures, ← c .before .before .before .before .begin .ensures) (c .before .before .finish .ensures)
+returns c =
+    let at-finish = c .before .before in
+    let at-begin = at-finish .before .before in
+    let at-start-code = at-begin .before in
+    rw (← at-start-code .start-code .ensures, ← at-begin .begin .ensures) (at-finish .finish .ensures)
 
 pub start-spec : {M : Type 1} → statement M
 start-spec =

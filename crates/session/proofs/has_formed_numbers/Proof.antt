@@ -11,7 +11,9 @@ comes-in-requires c κs = search needs
 
 returns : tie.Need-returns
 unfolding numberTests
-returns c = rw (← ap (λ (x : Comes). x .idle) (c .before .before .before .before .before .before .before .before .before .before .before .before .before .comes-in .ensures))
+returns c =
+    let at-comes-in = c .before .before .before .before .before .before .before .before .before .before .before .before .before in
+    rw (← ap (λ (x : Comes). x .idle) (at-comes-in .comes-in .ensures))
 
 pub has-formed-numbers-spec : {M : Type 1} → statement M
 has-formed-numbers-spec =

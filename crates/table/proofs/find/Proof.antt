@@ -30,7 +30,13 @@ is-sought-requires : tie.Need-is-sought-requires Inv-loop μ-loop
 is-sought-requires c κs = search needs
 
 returns : tie.Need-returns Inv-loop μ-loop
-returns c = sym (lowest-found _ _ _ _ (c .before .before .before .before .loop-test .taken) (rw (← c .before .before .before .load .ensures, ← c .before .before .page-of .ensures, ← c .before .is-sought .ensures) (c .if1 .taken))) ∙ c .before .before .before .before .before .loop .inv .1
+returns c =
+    let at-is-sought = c .before in
+    let at-page-of = at-is-sought .before in
+    let at-load = at-page-of .before in
+    let at-loop-test = at-load .before in
+    let at-loop = at-loop-test .before in
+    sym (lowest-found _ _ _ _ (at-loop-test .loop-test .taken) (rw (← at-load .load .ensures, ← at-page-of .page-of .ensures, ← at-is-sought .is-sought .ensures) (c .if1 .taken))) ∙ at-loop .loop .inv .1
 
 add-i : tie.Need-add-i Inv-loop μ-loop
 add-i c = search needs
@@ -39,7 +45,13 @@ loop-less : tie.Need-loop-less Inv-loop μ-loop
 loop-less c = search needs
 
 loop-again : tie.Need-loop-again Inv-loop μ-loop
-loop-again c = (omega arith, sym (lowest-next _ _ _ _ (c .before .before .before .before .loop-test .taken) (rw (← c .before .before .before .load .ensures, ← c .before .before .page-of .ensures, ← c .before .is-sought .ensures) (c .if1 .left))) ∙ c .before .before .before .before .before .loop .inv .1)
+loop-again c =
+    let at-is-sought = c .before in
+    let at-page-of = at-is-sought .before in
+    let at-load = at-page-of .before in
+    let at-loop-test = at-load .before in
+    let at-loop = at-loop-test .before in
+    (omega arith, sym (lowest-next _ _ _ _ (at-loop-test .loop-test .taken) (rw (← at-load .load .ensures, ← at-page-of .page-of .ensures, ← at-is-sought .is-sought .ensures) (c .if1 .left))) ∙ at-loop .loop .inv .1)
 
 returns-2 : tie.Need-returns-2 Inv-loop μ-loop
 returns-2 c =

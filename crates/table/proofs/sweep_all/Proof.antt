@@ -35,11 +35,15 @@ loop-less : tie.Need-loop-less Inv-loop μ-loop
 loop-less c = search needs
 
 loop-again : tie.Need-loop-again Inv-loop μ-loop
-loop-again c = (
-  omega arith,
-  rw (add-one (c .before .before .before .before .before .before .before .before .loop .i), c .before .before .store .ensures, c .before .before .before .before .sweep-words .ensures, c .before .before .before .before .before .load .ensures, c .before .before .before .before .before .before .before .before .loop .inv .1),
-  c .before .before .store .kept .0 ∙ c .before .before .before .before .before .before .before .before .loop .inv .2,
-)
+loop-again c =
+    let at-store = c .before .before in
+    let at-sweep-words = at-store .before .before in
+    let at-load = at-sweep-words .before in
+    let at-loop = at-load .before .before .before in (
+      omega arith,
+      rw (add-one (at-loop .loop .i), at-store .store .ensures, at-sweep-words .sweep-words .ensures, at-load .load .ensures, at-loop .loop .inv .1),
+      at-store .store .kept .0 ∙ at-loop .loop .inv .2,
+    )
 
 same-length : tie.Need-same-length Inv-loop μ-loop
 same-length c = search needs

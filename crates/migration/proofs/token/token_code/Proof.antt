@@ -22,25 +22,55 @@ returns-2 c = rw (gate-first, ← c .before .before .before .before .gate .ensur
 
 returns-3 : tie.Need-returns-3
 unfolding tokenCode
-returns-3 c = rw (gate-first, ← c .before .before .before .before .before .gate .ensures, eq-eqb _ _ (c .before .before .before .before .if1 .left), ← c .before .before .before .is-busy .ensures, c .before .if2 .left, c .if3 .taken)
+returns-3 c =
+    let at-if2 = c .before in
+    let at-is-busy = at-if2 .before .before in
+    let at-if1 = at-is-busy .before in
+    let at-gate = at-if1 .before in
+    rw (gate-first, ← at-gate .gate .ensures, eq-eqb _ _ (at-if1 .if1 .left), ← at-is-busy .is-busy .ensures, at-if2 .if2 .left, c .if3 .taken)
 
 has-requires : tie.Need-has-requires
 has-requires c κs = search needs
 
 returns-4 : tie.Need-returns-4
 unfolding tokenCode
-returns-4 c = rw (gate-first, ← c .before .before .before .before .before .before .before .gate .ensures, eq-eqb _ _ (c .before .before .before .before .before .before .if1 .left), ← c .before .before .before .before .before .is-busy .ensures, ← c .before .has .ensures, c .before .before .before .if2 .left, c .before .before .if3 .left, c .if4 .taken)
+returns-4 c =
+    let at-has = c .before in
+    let at-if3 = at-has .before in
+    let at-if2 = at-if3 .before in
+    let at-is-busy = at-if2 .before .before in
+    let at-if1 = at-is-busy .before in
+    let at-gate = at-if1 .before in
+    rw (gate-first, ← at-gate .gate .ensures, eq-eqb _ _ (at-if1 .if1 .left), ← at-is-busy .is-busy .ensures, ← at-has .has .ensures, at-if2 .if2 .left, at-if3 .if3 .left, c .if4 .taken)
 
 has-requires-2 : tie.Need-has-requires-2
 has-requires-2 c κs = search needs
 
 returns-5 : tie.Need-returns-5
 unfolding tokenCode
-returns-5 c = rw (gate-first, ← c .before .before .before .before .before .before .before .before .before .gate .ensures, eq-eqb _ _ (c .before .before .before .before .before .before .before .before .if1 .left), ← c .before .before .before .before .before .before .before .is-busy .ensures, ← c .before .before .before .has .ensures, ← c .before .has2 .ensures, c .before .before .before .before .before .if2 .left, c .before .before .before .before .if3 .left, c .before .before .if4 .left, c .if5 .taken)
+returns-5 c =
+    let at-has2 = c .before in
+    let at-if4 = at-has2 .before in
+    let at-has = at-if4 .before in
+    let at-if3 = at-has .before in
+    let at-if2 = at-if3 .before in
+    let at-is-busy = at-if2 .before .before in
+    let at-if1 = at-is-busy .before in
+    let at-gate = at-if1 .before in
+    rw (gate-first, ← at-gate .gate .ensures, eq-eqb _ _ (at-if1 .if1 .left), ← at-is-busy .is-busy .ensures, ← at-has .has .ensures, ← at-has2 .has2 .ensures, at-if2 .if2 .left, at-if3 .if3 .left, at-if4 .if4 .left, c .if5 .taken)
 
 returns-6 : tie.Need-returns-6
 unfolding tokenCode
-returns-6 c = rw (gate-first, ← c .before .before .before .before .before .before .before .before .before .gate .ensures, eq-eqb _ _ (c .before .before .before .before .before .before .before .before .if1 .left), ← c .before .before .before .before .before .before .before .is-busy .ensures, ← c .before .before .before .has .ensures, ← c .before .has2 .ensures, c .before .before .before .before .before .if2 .left, c .before .before .before .before .if3 .left, c .before .before .if4 .left, c .if5 .left)
+returns-6 c =
+    let at-has2 = c .before in
+    let at-if4 = at-has2 .before in
+    let at-has = at-if4 .before in
+    let at-if3 = at-has .before in
+    let at-if2 = at-if3 .before in
+    let at-is-busy = at-if2 .before .before in
+    let at-if1 = at-is-busy .before in
+    let at-gate = at-if1 .before in
+    rw (gate-first, ← at-gate .gate .ensures, eq-eqb _ _ (at-if1 .if1 .left), ← at-is-busy .is-busy .ensures, ← at-has .has .ensures, ← at-has2 .has2 .ensures, at-if2 .if2 .left, at-if3 .if3 .left, at-if4 .if4 .left, c .if5 .left)
 
 pub token-code-spec : {M : Type 1} → statement M
 token-code-spec =

@@ -21,7 +21,11 @@ store-mark-requires-2 c κs = search needs
 
 returns-2 : tie.Need-returns-2
 unfolding writeStep
-returns-2 c = rw (← ap (λ (x : Row). x .writable) (c .before .before .before .before .before .row-of .ensures), ← ap (λ (x : Row). x .landing) (c .before .before .before .before .before .row-of .ensures), c .before .before .before .before .if1 .left, c .before .if2 .taken, ← c .store-mark2 .ensures)
+returns-2 c =
+    let at-if2 = c .before in
+    let at-if1 = at-if2 .before .before .before in
+    let at-row-of = at-if1 .before in
+    rw (← ap (λ (x : Row). x .writable) (at-row-of .row-of .ensures), ← ap (λ (x : Row). x .landing) (at-row-of .row-of .ensures), at-if1 .if1 .left, at-if2 .if2 .taken, ← c .store-mark2 .ensures)
 
 returns-3 : tie.Need-returns-3
 unfolding writeStep

@@ -23,14 +23,24 @@ returns-2 c = rw (← ap (λ (x : Row). x .strange) (c .before .before .before .
 
 returns-3 : tie.Need-returns-3
 unfolding held written
-returns-3 c = rw (← ap (λ (x : Row). x .strange) (c .before .before .before .before .before .row-of .ensures), c .before .before .before .before .if1 .left, lt-ltb _ _ (c .before .before .if2 .left), le-ltb _ _ (c .if3 .taken))
+returns-3 c =
+    let at-if2 = c .before .before in
+    let at-if1 = at-if2 .before .before in
+    let at-row-of = at-if1 .before in
+    rw (← ap (λ (x : Row). x .strange) (at-row-of .row-of .ensures), at-if1 .if1 .left, lt-ltb _ _ (at-if2 .if2 .left), le-ltb _ _ (c .if3 .taken))
 
 record-word-requires : tie.Need-record-word-requires
 record-word-requires c κs = search needs
 
 returns-4 : tie.Need-returns-4
 unfolding held written
-returns-4 c = rw (← ap (λ (x : Row). x .strange) (c .before .before .before .before .before .before .row-of .ensures), c .before .before .before .before .before .if1 .left, ← c .before .before .before .before .before .before .before .number-of .ensures, lt-ltb _ _ (c .before .before .before .if2 .left), lt-ltb _ _ (c .before .if3 .left), ← c .record-word .ensures)
+returns-4 c =
+    let at-if3 = c .before in
+    let at-if2 = at-if3 .before .before in
+    let at-if1 = at-if2 .before .before in
+    let at-row-of = at-if1 .before in
+    let at-number-of = at-row-of .before in
+    rw (← ap (λ (x : Row). x .strange) (at-row-of .row-of .ensures), at-if1 .if1 .left, ← at-number-of .number-of .ensures, lt-ltb _ _ (at-if2 .if2 .left), lt-ltb _ _ (at-if3 .if3 .left), ← c .record-word .ensures)
 
 pub write-back-spec : {M : Type 1} → statement M
 write-back-spec =

@@ -41,7 +41,10 @@ loop-less : tie.Need-loop-less Inv-loop μ-loop
 loop-less c = search needs
 
 loop-again : tie.Need-loop-again Inv-loop μ-loop
-loop-again c = (omega arith, rw (add-one (c .before .before .before .before .loop .i), c .before .before .before .before .loop .inv .1, c .is-so .ensures, ap (λ (x : Comes). x .moving) (c .before .before .before .before .before .comes-in .ensures)))
+loop-again c =
+    let at-loop = c .before .before .before .before in
+    let at-comes-in = at-loop .before in
+    (omega arith, rw (add-one (at-loop .loop .i), at-loop .loop .inv .1, c .is-so .ensures, ap (λ (x : Comes). x .moving) (at-comes-in .comes-in .ensures)))
 
 returns : tie.Need-returns Inv-loop μ-loop
 returns c =
