@@ -21,7 +21,8 @@ use Rattle.page.specs.declared.moves.Move.the-variants as move
 use Rattle.table.specs.Table.{pageCount, wordsAt, pageAt, putAt, sweepOf}
 use Rattle.table.proofs.Laws.{put-other, sweep-at, sweep-ahead, page-sweep}
 use Rattle.session.specs.Session.{newSession, withTlb, withEpoch, withPhase, withCheck, unchecked, begun}
-use Rattle.session.specs.Outcome.{Outcome, outcome, answered, answeredBy}
+use Rattle.session.specs.Outcome.{Outcome, answered, answeredBy}
+use Rattle.session.proofs.Laws.{answered-either, answered-words}
 use Rattle.session.specs.declared.Session.{Session}
 use Rattle.session.specs.declared.Phase.the-variants as phase
 use Rattle.memory.specs.Memory.{newCode, newOut, pageCode, pageTurn, onPage, writeOut, addOut, acceptOut, blockOut, unblockOut, removeOut, trackCode, trackOut}
@@ -48,12 +49,8 @@ zero-no-refusal : (n : ℕ) → eqb n 0 ≡ true → refusal n ≡ true → ⊥
 zero-no-refusal n e r = false≢true (ap refusal (sym (eqb-true n 0 e)) ∙ r)
 
 answered-keeps : (code : ℕ) (s : Session) (t : List ℕ) (s' : Session) (t' : List ℕ) → refusal (answered code s t s' t' .answer .code) ≡ true → Kept (answered code s t s' t') s t
-unfolding answered
-answered-keeps code s t s' t' = go (eqb code 0) refl
-  where
-    go : (b : Bool) → eqb code 0 ≡ b → refusal (cond b (outcome code s' t') (outcome code s t) .answer .code) ≡ true → Kept (cond b (outcome code s' t') (outcome code s t)) s t
-    go true e r = absurd (zero-no-refusal code e r)
-    go false e r = (refl, refl)
+answered-keeps code s t s' t' =
+    answered-either (λ (o : Outcome). refusal (o .answer .code) ≡ true → Kept o s t) code s t s' t' (λ e r. absurd (zero-no-refusal code e r)) (λ e r. (refl, refl))
 
 all-keeps : (f : Page → Page) (code : ℕ) (s s' : Session) (t : List ℕ) → refusal (answeredBy f code s s' t .answer .code) ≡ true → Kept (answeredBy f code s s' t) s t
 all-keeps f code s s' t = answered-keeps code s t s' (sweepOf (sweptWords f) (pageCount t) t)
@@ -116,15 +113,6 @@ pub refusal-keeps : RefusalKeeps
 refusal-keeps = record { session = λ c s t r. keeps s t c r .0; table = λ c s t r. keeps s t c r .1; page = λ c s t e f. page-zero s t c e f }
 
 -- ---- a strange record
-
--- two words that the table made by a call has in common with the one that came
-answered-words : (code : ℕ) (s : Session) (t : List ℕ) (s' : Session) (t' : List ℕ) (i : ℕ) → (eqb code 0 ≡ true → wordsAt t' i ≡ wordsAt t i) → wordsAt (answered code s t s' t' .table) i ≡ wordsAt t i
-unfolding answered
-answered-words code s t s' t' i f = go (eqb code 0) refl
-  where
-    go : (b : Bool) → eqb code 0 ≡ b → wordsAt (cond b (outcome code s' t') (outcome code s t) .table) i ≡ wordsAt t i
-    go true e = f e
-    go false e = refl
 
 turn-strange : (m : Move) (s : Session) (len at : ℕ) (w : PageWords) → strange (pageOf w) ≡ true → eqb (pageTurn m s len at w .code) 0 ≡ false
 unfolding pageTurn

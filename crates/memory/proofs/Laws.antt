@@ -19,9 +19,9 @@ use Rattle.table.specs.Table.{wordsAt, pageAt, putAt}
 use Rattle.table.proofs.Laws.{put-other, page-put}
 use Rattle.session.specs.Session.{guest}
 use Rattle.session.specs.Formed.{formed, lastEpoch}
-use Rattle.session.specs.Outcome.{outcome, answered}
+use Rattle.session.specs.Outcome.{Outcome}
 use Rattle.session.specs.declared.Session.{Session}
-use Rattle.session.proofs.Laws.{gate-open}
+use Rattle.session.proofs.Laws.{gate-open, answered-either, answered-words}
 use Rattle.session.proofs.FormedLaws.{formed-means}
 use Rattle.memory.specs.Memory.{pageTests, pageCode, pageTurn, onPage, trackTests, trackCode}
 
@@ -60,14 +60,16 @@ unfolding turnOf
 turn-words m w tlb e = rw (eq-eqb _ _ e)
 
 pub page-done : (m : Move) (s : Session) (t : List ℕ) (at : ℕ) → onPage m s t at .answer .code ≡ 0 → pageAt (onPage m s t at .table) at ≡ stepOf m (pageAt t at) (s .tlb) .page
-unfolding onPage answered
-page-done m s t at = go (eqb (turn .code) 0) refl
+unfolding onPage
+page-done m s t at =
+    answered-either (λ (o : Outcome). o .answer .code ≡ 0 → pageAt (o .table) at ≡ stepOf m (pageAt t at) (s .tlb) .page)
+    (turn .code) s t s (putAt t at (turn .words)) (λ q. made) (λ q e. absurd (eqb-false (turn .code) 0 q e))
   where
     turn : Turn
     turn = pageTurn m s (length t) at (wordsAt t at)
 
-    go : (b : Bool) → eqb (turn .code) 0 ≡ b → cond b (outcome (turn .code) s (putAt t at (turn .words))) (outcome (turn .code) s t) .answer .code ≡ 0 → pageAt (cond b (outcome (turn .code) s (putAt t at (turn .words))) (outcome (turn .code) s t) .table) at ≡ stepOf m (pageAt t at) (s .tlb) .page
-    go true q e =
+    made : turn .code ≡ 0 → pageAt (putAt t at (turn .words)) at ≡ stepOf m (pageAt t at) (s .tlb) .page
+    made e =
         let d = turn-done m s (length t) at (wordsAt t at) e in
         let i = page-inside m s (length t) at (d .0) in
         let small : s .tlb < room = omega (arith, formed-means s (length t) (i .formed) .tlb .high) in
@@ -75,16 +77,10 @@ page-done m s t at = go (eqb (turn .code) 0) refl
         = ap (λ (x : Turn). x .words) (d .1) ∙ turn-words m (wordsAt t at) (s .tlb) (sym (ap (λ (x : Turn). x .code) (d .1)) ∙ e) in
         ap (λ (w : PageWords). pageAt (putAt t at w) at) same
         ∙ page-put t at (stepOf m (pageAt t at) (s .tlb) .page) (i .below) (step-becomes m (pageAt t at) (s .tlb) small)
-    go false q e = absurd (eqb-false (turn .code) 0 q e)
 
 -- and a page that it is not on
 pub page-other : (m : Move) (s : Session) (t : List ℕ) (at k : ℕ) → (k ≡ at → ⊥) → wordsAt (onPage m s t at .table) k ≡ wordsAt t k
-unfolding onPage answered
-page-other m s t at k ne = go (eqb (turn .code) 0)
-  where
-    turn : Turn
-    turn = pageTurn m s (length t) at (wordsAt t at)
-
-    go : (b : Bool) → wordsAt (cond b (outcome (turn .code) s (putAt t at (turn .words))) (outcome (turn .code) s t) .table) k ≡ wordsAt t k
-    go true = put-other t at k (turn .words) ne
-    go false = refl
+unfolding onPage
+page-other m s t at k ne =
+    let turn = pageTurn m s (length t) at (wordsAt t at) in
+    answered-words (turn .code) s t s (putAt t at (turn .words)) k (λ e. put-other t at k (turn .words) ne)

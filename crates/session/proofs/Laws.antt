@@ -7,9 +7,10 @@ use lib.Dec.{eqb}
 use Rattle.words.specs.Codes as codes
 use Rattle.refusals.specs.Refusals.{Test, firstOf}
 use Rattle.refusals.proofs.Laws.{Passed, coded, passed, passed-code, Ends, once, ended, not-false}
+use Rattle.table.specs.Table.{wordsAt}
 use Rattle.session.specs.Session.{among}
 use Rattle.session.specs.Formed.{formed, gateTests, gated}
-use Rattle.session.specs.Outcome.{outcome, answered}
+use Rattle.session.specs.Outcome.{Outcome, outcome, answered}
 use Rattle.session.specs.declared.Phase.{Phase}
 use Rattle.session.specs.declared.Session.{Session}
 
@@ -23,14 +24,23 @@ gate-first s len phases l = go (not (formed s len)) (not (among phases (s .phase
     go false true = refl
     go false false = refl
 
+-- what holds of the outcome that a call makes and of the one that gives back what came holds of its answer
+pub answered-either : (P : Outcome → Type 0) (code : ℕ) (s : Session) (t : List ℕ) (s' : Session) (t' : List ℕ) → (eqb code 0 ≡ true → P (outcome code s' t')) → (eqb code 0 ≡ false → P (outcome code s t)) → P (answered code s t s' t')
+unfolding answered
+answered-either P code s t s' t' made kept = go (eqb code 0) refl
+  where
+    go : (b : Bool) → eqb code 0 ≡ b → P (cond b (outcome code s' t') (outcome code s t))
+    go true e = made e
+    go false e = kept e
+
 -- a call that makes no other table leaves the table
 pub table-kept : (code : ℕ) (s s' : Session) (t : List ℕ) → answered code s t s' t .table ≡ t
-unfolding answered
-table-kept code s s' t = go (eqb code 0)
-  where
-    go : (b : Bool) → cond b (outcome code s' t) (outcome code s t) .table ≡ t
-    go true = refl
-    go false = refl
+table-kept code s s' t = answered-either (λ (o : Outcome). o .table ≡ t) code s t s' t (λ e. refl) (λ e. refl)
+
+-- two words that the table made by a call has in common with the one that came
+pub answered-words : (code : ℕ) (s : Session) (t : List ℕ) (s' : Session) (t' : List ℕ) (i : ℕ) → (eqb code 0 ≡ true → wordsAt t' i ≡ wordsAt t i) → wordsAt (answered code s t s' t' .table) i ≡ wordsAt t i
+answered-words code s t s' t' i same =
+    answered-either (λ (o : Outcome). wordsAt (o .table) i ≡ wordsAt t i) code s t s' t' same (λ e. refl)
 
 -- behind the gate, and behind the call's own tests
 pub record Open (s : Session) (len : ℕ) (phases : List Phase) (l : List Test) : Type 0 where
