@@ -1,13 +1,16 @@
--- Every call but the token answers as `answered` says, which with a code other than 0 gives back what came; the token's session is chosen in the same way.
+-- Every call without a list but the token answers as `answered` says, which with a code other than 0 gives back what came; the token's session is chosen in the
+-- same way, and so is all that a scan or an export leaves, which once it runs answers no refusal's code.
 use mathlib.Core.Path.{_≡_, refl, sym, ap, _∙_}
-use mathlib.Core.Bool.{Bool, true, false, cond, true≢false, false≢true}
+use mathlib.Core.Bool.{Bool, true, false, cond, not, true≢false, false≢true}
 use mathlib.Core.List.{List}
-use Prim.Native.Nat.{ℕ, _+_, _<_}
+use Prim.Native.Nat.{ℕ, _+_, _-_, _<_}
 use lib.Dec.{eqb, ltb}
 use lib.ListN.{length, replicate}
 use native.Mathlib.Nat.{le-refl}
 use borrow.Author.Tests.{eqb-true, eqb-false, ltb-true, ltb-false}
 use Rattle.words.specs.Codes as codes
+use Rattle.words.specs.Info.{infoOf}
+use Rattle.refusals.proofs.Laws.{not-true}
 use Rattle.page.specs.Page.{pageOf, strange}
 use Rattle.page.specs.Moves.{turnOf}
 use Rattle.page.specs.Sweeps.{uncached, started, aborted, sweptBy, unlessStrange, sweptWords}
@@ -30,32 +33,44 @@ use Rattle.memory.proofs.Laws.{page-done, page-other}
 use Rattle.migration.specs.Migration.{startCode, startOut, pauseCode, pauseOut, abortCode, abortOut, newEpochCode, newEpochOut, resetCode, resetOut}
 use Rattle.migration.specs.Token.{tokenNumber, tokenPage, tokenCode, inTheWay, tokenFor, tokenOut}
 use Rattle.migration.proofs.Laws.{token-number, token-page, new-epoch-table, reset-table}
-use Rattle.calls.specs.Calls.{effectOf}
-use Rattle.calls.specs.Promises.{OneOutcome, refusal, RefusalKeeps, isNew, StrangeStays, PagesMove}
+use Rattle.scan.specs.Scan.{ScanOutcome, dscanOf, dcheckOf, checkedBy}
+use Rattle.scan.proofs.Outcomes.{OfScans, range-code, look-page, dscan-either, dscan-strange, dchecked, dcheck-either, dcheck-strange}
+use Rattle.scan.proofs.RangeLaws.{range-page}
+use Rattle.export.specs.Export.{ExportOutcome}
+use Rattle.export.proofs.Moves.{exported, step-page, step-other, export-either, export-strange, finished-code}
+use Rattle.calls.specs.Calls.{effect, scanEffect, exportEffect, effectOf}
+use Rattle.calls.specs.Promises.{OneOutcome, refusal, Kept, RefusalKeeps, isNew, StrangeStays, PagesMove}
 use Rattle.calls.specs.declared.Call.{Call}
-use Rattle.calls.specs.declared.Call.the-variants.{New, Write, Add, Accept, Block, Unblock, Remove, Track, Start, Pause, Abort, NewEpoch, Reset, StartToken}
+use Rattle.calls.specs.declared.Call.the-variants.{New, Write, Add, Accept, Block, Unblock, Remove, Track, Start, Pause, Abort, NewEpoch, Reset, StartToken, Dscan, Dcheck, Export}
 
 pub one-outcome : OneOutcome
 one-outcome =
-    record { answer = λ c s t r r' u u' m n. m .returned ∙ sym (n .returned); table = λ c s t r r' u u' m n. m .table ∙ sym (n .table) }
+    record {
+      one = λ c s t l b r r' u u' m m' v v' x y. record {
+        answer = x .returned ∙ sym (y .returned);
+        table = x .table ∙ sym (y .table);
+        list = x .list ∙ sym (y .list);
+        buffer = x .buffer ∙ sym (y .buffer);
+      };
+    }
 
 -- ---- a refusal
 
 -- the session and the table come back as they were
-abbrev Kept : Outcome → Session → List ℕ → Type 0
-Kept o s t = (o .answer .session ≡ s) × (o .table ≡ t)
+abbrev Returns : Outcome → Session → List ℕ → Type 0
+Returns o s t = (o .answer .session ≡ s) × (o .table ≡ t)
 
 zero-no-refusal : (n : ℕ) → eqb n 0 ≡ true → refusal n ≡ true → ⊥
 zero-no-refusal n e r = false≢true (ap refusal (sym (eqb-true n 0 e)) ∙ r)
 
-answered-keeps : (code : ℕ) (s : Session) (t : List ℕ) (s' : Session) (t' : List ℕ) → refusal (answered code s t s' t' .answer .code) ≡ true → Kept (answered code s t s' t') s t
+answered-keeps : (code : ℕ) (s : Session) (t : List ℕ) (s' : Session) (t' : List ℕ) → refusal (answered code s t s' t' .answer .code) ≡ true → Returns (answered code s t s' t') s t
 answered-keeps code s t s' t' =
-    answered-either (λ (o : Outcome). refusal (o .answer .code) ≡ true → Kept o s t) code s t s' t' (λ e r. absurd (zero-no-refusal code e r)) (λ e r. (refl, refl))
+    answered-either (λ (o : Outcome). refusal (o .answer .code) ≡ true → Returns o s t) code s t s' t' (λ e r. absurd (zero-no-refusal code e r)) (λ e r. (refl, refl))
 
-all-keeps : (f : Page → Page) (code : ℕ) (s s' : Session) (t : List ℕ) → refusal (answeredBy f code s s' t .answer .code) ≡ true → Kept (answeredBy f code s s' t) s t
+all-keeps : (f : Page → Page) (code : ℕ) (s s' : Session) (t : List ℕ) → refusal (answeredBy f code s s' t .answer .code) ≡ true → Returns (answeredBy f code s s' t) s t
 all-keeps f code s s' t = answered-keeps code s t s' (sweepOf (sweptWords f) (pageCount t) t)
 
-page-keeps : (m : Move) (s : Session) (t : List ℕ) (at : ℕ) → refusal (onPage m s t at .answer .code) ≡ true → Kept (onPage m s t at) s t
+page-keeps : (m : Move) (s : Session) (t : List ℕ) (at : ℕ) → refusal (onPage m s t at .answer .code) ≡ true → Returns (onPage m s t at) s t
 unfolding onPage
 page-keeps m s t at =
     let turn = pageTurn m s (length t) at (wordsAt t at) in answered-keeps (turn .code) s t s (putAt t at (turn .words))
@@ -74,26 +89,58 @@ token-page-zero s t e f =
     let n : tokenNumber (tokenFor (tokenCode s t) t) ≡ tokenCode s t = token-number (tokenCode s t) t in
     token-page (tokenCode s t) t ∙ rw (rw n at e, rw n at f)
 
-module _ (s : Session) (t : List ℕ) where
-  keeps : (c : Call) → refusal (effectOf c s t .returned .code) ≡ true → (effectOf c s t .returned .session ≡ s) × (effectOf c s t .table ≡ t)
-  unfolding newOut writeOut addOut acceptOut blockOut unblockOut removeOut trackOut startOut pauseOut abortOut newEpochOut resetOut
-  keeps (New created) r =
-      answered-keeps (newCode (length t) created) s t (newSession (pageCount t) created) (replicate (length t) 0) r
-  keeps (Write page mark) r = page-keeps (move.Write mark) s t page r
-  keeps (Add page) r = page-keeps move.Add s t page r
-  keeps (Accept page) r = page-keeps move.Accept s t page r
-  keeps (Block page) r = page-keeps move.Block s t page r
-  keeps (Unblock page) r = page-keeps move.Unblock s t page r
-  keeps (Remove page) r = page-keeps move.Remove s t page r
-  keeps Track r = all-keeps uncached (trackCode s (length t)) s (withTlb s (s .tlb + 1)) t r
-  keeps Start r = all-keeps started (startCode s t) s (begun s phase.Live 1) t r
-  keeps Pause r = all-keeps uncached (pauseCode s t) s (withPhase s phase.Blackout) t r
-  keeps Abort r = all-keeps aborted (abortCode s t) s (begun s phase.Idle 0) t r
-  keeps NewEpoch r = answered-keeps (newEpochCode s t) s t (withEpoch s (s .epoch + 1)) t r
-  keeps Reset r = answered-keeps (resetCode s t) s t (withCheck s unchecked) t r
-  keeps StartToken r = (token-keeps s t r, refl)
+-- a code that a call which ran can give
+abbrev ran : ℕ → Bool
+ran n = not (refusal n)
 
-  page-zero : (c : Call) → eqb (effectOf c s t .returned .code) codes.exportedDirtyPagesRemain ≡ false → eqb (effectOf c s t .returned .code) codes.unexportedMemoryRemains ≡ false → effectOf c s t .returned .page ≡ 0
+scans-ran : OfScans ran
+scans-ran = record { done = refl; interrupted = refl; full = refl; complete = refl; blocked = refl }
+
+no-refusal : (r : Bool) → not r ≡ true → r ≡ true → ⊥
+no-refusal r x y = true≢false (sym y ∙ not-true r x)
+
+module _ (s : Session) (t l b : List ℕ) where
+  -- an answer of the code and the page alone, with list and buffer as they came
+  as-came : (code page : ℕ) (s' : Session) (t' : List ℕ) → s' ≡ s → t' ≡ t → Kept s t l b (record { returned = record { code = code; page = page; next = 0; first = 0; last = 0; info = 0; errors = 0; buffers = 0; session = s' }; table = t'; list = l; buffer = b })
+  as-came code page s' t' x y =
+      record { session = x; table = y; list = refl; buffer = refl; next = refl; first = refl; last = refl; info = refl; errors = refl; buffers = refl }
+
+  plain-kept : (o : Outcome) → Returns o s t → Kept s t l b (effect o l b)
+  plain-kept o k = as-came (o .answer .code) 0 (o .answer .session) (o .table) (k .0) (k .1)
+
+  keeps : (c : Call) → refusal (effectOf c s t l b .returned .code) ≡ true → Kept s t l b (effectOf c s t l b)
+  unfolding newOut writeOut addOut acceptOut blockOut unblockOut removeOut trackOut startOut pauseOut abortOut newEpochOut resetOut
+  keeps (New created) r = plain-kept (newOut s t created) (answered-keeps (newCode (length t) created) s t (newSession (pageCount t) created) (replicate (length t) 0) r)
+  keeps (Write page mark) r = plain-kept (writeOut s t page mark) (page-keeps (move.Write mark) s t page r)
+  keeps (Add page) r = plain-kept (addOut s t page) (page-keeps move.Add s t page r)
+  keeps (Accept page) r = plain-kept (acceptOut s t page) (page-keeps move.Accept s t page r)
+  keeps (Block page) r = plain-kept (blockOut s t page) (page-keeps move.Block s t page r)
+  keeps (Unblock page) r = plain-kept (unblockOut s t page) (page-keeps move.Unblock s t page r)
+  keeps (Remove page) r = plain-kept (removeOut s t page) (page-keeps move.Remove s t page r)
+  keeps Track r = plain-kept (trackOut s t) (all-keeps uncached (trackCode s (length t)) s (withTlb s (s .tlb + 1)) t r)
+  keeps Start r = plain-kept (startOut s t) (all-keeps started (startCode s t) s (begun s phase.Live 1) t r)
+  keeps Pause r = plain-kept (pauseOut s t) (all-keeps uncached (pauseCode s t) s (withPhase s phase.Blackout) t r)
+  keeps Abort r = plain-kept (abortOut s t) (all-keeps aborted (abortCode s t) s (begun s phase.Idle 0) t r)
+  keeps NewEpoch r = plain-kept (newEpochOut s t) (answered-keeps (newEpochCode s t) s t (withEpoch s (s .epoch + 1)) t r)
+  keeps Reset r = plain-kept (resetOut s t) (answered-keeps (resetCode s t) s t (withCheck s unchecked) t r)
+  keeps StartToken r = as-came (tokenNumber (tokenOut s t .token)) (tokenPage (tokenOut s t .token)) (tokenOut s t .session) t (token-keeps s t r) refl
+  keeps (Dscan first count budget) r =
+      dscan-either s t l first count budget (λ (o : ScanOutcome). refusal (o .answer .code) ≡ true → Kept s t l b (scanEffect o b))
+      (λ e x. absurd (no-refusal _ (range-code ran scans-ran count (dscanOf s first budget) t l s) x))
+      (λ x. as-came _ 0 s t refl refl)
+      r
+  keeps (Dcheck budget) r =
+      dcheck-either s t l budget (λ (o : ScanOutcome). refusal (o .answer .code) ≡ true → Kept s t l b (scanEffect o b))
+      (λ e x. absurd (no-refusal _ (range-code ran scans-ran (s .pages - s .check .place) (dcheckOf s budget) t l (checkedBy s (dchecked s t l budget .scanned))) x))
+      (λ x. as-came _ 0 s t refl refl)
+      r
+  keeps (Export stream resume info budget) r =
+      export-either (λ (o : ExportOutcome). refusal (o .answer .code) ≡ true → Kept s t l b (exportEffect o)) s t l b stream resume info budget
+      (λ x. absurd (no-refusal _ (finished-code ran s stream (infoOf info) (exported s t l b stream info budget .at) refl refl) x))
+      (λ x. as-came _ 0 s t refl refl)
+      r
+
+  page-zero : (c : Call) → eqb (effectOf c s t l b .returned .code) codes.exportedDirtyPagesRemain ≡ false → eqb (effectOf c s t l b .returned .code) codes.unexportedMemoryRemains ≡ false → effectOf c s t l b .returned .page ≡ 0
   page-zero (New created) e f = refl
   page-zero (Write page mark) e f = refl
   page-zero (Add page) e f = refl
@@ -108,9 +155,12 @@ module _ (s : Session) (t : List ℕ) where
   page-zero NewEpoch e f = refl
   page-zero Reset e f = refl
   page-zero StartToken e f = token-page-zero s t e f
+  page-zero (Dscan first count budget) e f = refl
+  page-zero (Dcheck budget) e f = refl
+  page-zero (Export stream resume info budget) e f = refl
 
 pub refusal-keeps : RefusalKeeps
-refusal-keeps = record { session = λ c s t r. keeps s t c r .0; table = λ c s t r. keeps s t c r .1; page = λ c s t e f. page-zero s t c e f }
+refusal-keeps = record { all = λ c s t l b r. keeps s t l b c r; page = λ c s t l b e f. page-zero s t l b c e f }
 
 -- ---- a strange record
 
@@ -147,8 +197,8 @@ all-strange : (f : Page → Page) (code : ℕ) (s s' : Session) (t : List ℕ) (
 all-strange f code s s' t i e =
     answered-words code s t s' (sweepOf (sweptWords f) (pageCount t) t) i (λ x. sweep-strange f t i e)
 
-module _ (s : Session) (t : List ℕ) (i : ℕ) (e : strange (pageAt t i) ≡ true) where
-  strange-words : (c : Call) → isNew c ≡ false → wordsAt (effectOf c s t .table) i ≡ wordsAt t i
+module _ (s : Session) (t l b : List ℕ) (i : ℕ) (e : strange (pageAt t i) ≡ true) where
+  strange-words : (c : Call) → isNew c ≡ false → wordsAt (effectOf c s t l b .table) i ≡ wordsAt t i
   unfolding writeOut addOut acceptOut blockOut unblockOut removeOut trackOut startOut pauseOut abortOut
   strange-words (New created) n = absurd (true≢false n)
   strange-words (Write page mark) n = page-strange (move.Write mark) s t page i e
@@ -164,9 +214,12 @@ module _ (s : Session) (t : List ℕ) (i : ℕ) (e : strange (pageAt t i) ≡ tr
   strange-words NewEpoch n = ap (λ (u : List ℕ). wordsAt u i) (new-epoch-table s t)
   strange-words Reset n = ap (λ (u : List ℕ). wordsAt u i) (reset-table s t)
   strange-words StartToken n = refl
+  strange-words (Dscan first count budget) n = dscan-strange s t l first count budget i e
+  strange-words (Dcheck budget) n = dcheck-strange s t l budget i e
+  strange-words (Export stream resume info budget) n = export-strange s t l b stream resume info budget i e
 
 pub strange-stays : StrangeStays
-strange-stays = record { words = λ c s t i n e. strange-words s t i e c n }
+strange-stays = record { words = λ c s t l b i n e. strange-words s t l b i e c n }
 
 -- ---- pages
 
@@ -175,4 +228,4 @@ unfolding answered
 sweep-done k s s' t i h = page-sweep (sweptBy k) (sweep-becomes k) t i h
 
 pub pages-move : PagesMove
-pages-move = record { one = page-done; others = page-other; all = sweep-done }
+pages-move = record { one = page-done; others = page-other; all = sweep-done; entry = step-page; beside = step-other; range = range-page; look = look-page }

@@ -8,37 +8,67 @@ use Rattle.memory.specs.Memory.{newOut, writeOut, addOut, acceptOut, blockOut, 
 use Rattle.migration.specs.Migration.{startOut, pauseOut, abortOut, newEpochOut, resetOut}
 use Rattle.migration.specs.Token.{tokenOut, tokenNumber, tokenPage}
 use Rattle.migration.specs.declared.token.TokenAnswer.{TokenAnswer}
+use Rattle.scan.specs.Scan.{ScanOutcome, dscanOut, dcheckOut}
+use Rattle.scan.specs.declared.ScanAnswer.{ScanAnswer}
+use Rattle.export.specs.Export.{ExportOutcome, exportOut}
+use Rattle.export.specs.declared.ExportAnswer.{ExportAnswer}
 use Rattle.calls.specs.declared.Call.{Call}
-use Rattle.calls.specs.declared.Call.the-variants.{New, Write, Add, Accept, Block, Unblock, Remove, Track, Start, Pause, Abort, NewEpoch, Reset, StartToken}
+use Rattle.calls.specs.declared.Call.the-variants.{New, Write, Add, Accept, Block, Unblock, Remove, Track, Start, Pause, Abort, NewEpoch, Reset, StartToken, Dscan, Dcheck, Export}
 use Rattle.calls.specs.declared.Returned.{Returned}
 
 pub record Effect : Type 0 where
   pub returned : Returned
   pub table : List ℕ
+  pub list : List ℕ
+  pub buffer : List ℕ
 
--- an answer that names no page
-abbrev pub plainly : Answer → Returned
-plainly a = record { code = a .code; page = 0; session = a .session }
+-- an answer without numbers
+abbrev pub withoutNumbers : Answer → Returned
+withoutNumbers a =
+    record { code = a .code; page = 0; next = 0; first = 0; last = 0; info = 0; errors = 0; buffers = 0; session = a .session }
 
-abbrev pub effect : Outcome → Effect
-effect o = record { returned = plainly (o .answer); table = o .table }
+abbrev pub tokenNumbers : TokenAnswer → Returned
+tokenNumbers a =
+    record { code = tokenNumber (a .token); page = tokenPage (a .token); next = 0; first = 0; last = 0; info = 0; errors = 0; buffers = 0; session = a .session }
 
--- the token's numbers; it leaves the table
-abbrev pub tokenEffect : TokenAnswer → List ℕ → Effect
-tokenEffect a t = record { returned = record { code = tokenNumber (a .token); page = tokenPage (a .token); session = a .session }; table = t }
+abbrev pub scanNumbers : ScanAnswer → Returned
+scanNumbers a =
+    record { code = a .code; page = 0; next = a .next; first = a .first; last = a .last; info = 0; errors = 0; buffers = 0; session = a .session }
 
-abbrev pub effectOf : Call → Session → List ℕ → Effect
-effectOf (New created) s t = effect (newOut s t created)
-effectOf (Write page mark) s t = effect (writeOut s t page mark)
-effectOf (Add page) s t = effect (addOut s t page)
-effectOf (Accept page) s t = effect (acceptOut s t page)
-effectOf (Block page) s t = effect (blockOut s t page)
-effectOf (Unblock page) s t = effect (unblockOut s t page)
-effectOf (Remove page) s t = effect (removeOut s t page)
-effectOf Track s t = effect (trackOut s t)
-effectOf Start s t = effect (startOut s t)
-effectOf Pause s t = effect (pauseOut s t)
-effectOf Abort s t = effect (abortOut s t)
-effectOf NewEpoch s t = effect (newEpochOut s t)
-effectOf Reset s t = effect (resetOut s t)
-effectOf StartToken s t = tokenEffect (tokenOut s t) t
+abbrev pub exportNumbers : ExportAnswer → Returned
+exportNumbers a =
+    record { code = a .code; page = 0; next = 0; first = 0; last = 0; info = a .info; errors = a .errors; buffers = a .buffers; session = a .session }
+
+-- a call that takes no list leaves the list and the buffer
+abbrev pub effect : Outcome → List ℕ → List ℕ → Effect
+effect o l b = record { returned = withoutNumbers (o .answer); table = o .table; list = l; buffer = b }
+
+-- the token leaves the table too
+abbrev pub tokenEffect : TokenAnswer → List ℕ → List ℕ → List ℕ → Effect
+tokenEffect a t l b = record { returned = tokenNumbers a; table = t; list = l; buffer = b }
+
+-- a scan takes no buffer
+abbrev pub scanEffect : ScanOutcome → List ℕ → Effect
+scanEffect o b = record { returned = scanNumbers (o .answer); table = o .table; list = o .list; buffer = b }
+
+abbrev pub exportEffect : ExportOutcome → Effect
+exportEffect o = record { returned = exportNumbers (o .answer); table = o .table; list = o .list; buffer = o .buffer }
+
+abbrev pub effectOf : Call → Session → List ℕ → List ℕ → List ℕ → Effect
+effectOf (New created) s t l b = effect (newOut s t created) l b
+effectOf (Write page mark) s t l b = effect (writeOut s t page mark) l b
+effectOf (Add page) s t l b = effect (addOut s t page) l b
+effectOf (Accept page) s t l b = effect (acceptOut s t page) l b
+effectOf (Block page) s t l b = effect (blockOut s t page) l b
+effectOf (Unblock page) s t l b = effect (unblockOut s t page) l b
+effectOf (Remove page) s t l b = effect (removeOut s t page) l b
+effectOf Track s t l b = effect (trackOut s t) l b
+effectOf Start s t l b = effect (startOut s t) l b
+effectOf Pause s t l b = effect (pauseOut s t) l b
+effectOf Abort s t l b = effect (abortOut s t) l b
+effectOf NewEpoch s t l b = effect (newEpochOut s t) l b
+effectOf Reset s t l b = effect (resetOut s t) l b
+effectOf StartToken s t l b = tokenEffect (tokenOut s t) t l b
+effectOf (Dscan first count budget) s t l b = scanEffect (dscanOut s t l first count budget) b
+effectOf (Dcheck budget) s t l b = scanEffect (dcheckOut s t l budget) b
+effectOf (Export stream resume info budget) s t l b = exportEffect (exportOut s t l b stream resume info budget)

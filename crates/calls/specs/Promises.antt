@@ -2,12 +2,15 @@
 use mathlib.Core.Path.{_≡_}
 use mathlib.Core.Bool.{Bool, true, false, _||_}
 use mathlib.Core.List.{List}
-use Prim.Native.Nat.{ℕ, _<_}
+use Prim.Native.Nat.{ℕ, _+_, _*_, _<_, _≤_}
+use lib.ListN.{length}
 use lib.Dec.{eqb}
 use Rattle.words.specs.Codes as codes
-use Rattle.page.specs.Page.{strange}
+use Rattle.words.specs.Record.{room}
+use Rattle.page.specs.Page.{pageOf, strange}
 use Rattle.page.specs.Moves.{stepOf}
 use Rattle.page.specs.Sweeps.{sweptBy, unlessStrange}
+use Rattle.page.specs.declared.records.PageWords.{PageWords}
 use Rattle.page.specs.declared.moves.Move.{Move}
 use Rattle.page.specs.declared.sweeps.Sweep.{Sweep}
 use Rattle.table.specs.Table.{pageCount, wordsAt, pageAt}
@@ -15,30 +18,63 @@ use Rattle.session.specs.Formed.{within}
 use Rattle.session.specs.Outcome.{answeredBy}
 use Rattle.session.specs.declared.Session.{Session}
 use Rattle.memory.specs.Memory.{onPage}
-use Rattle.calls.specs.Calls.{effectOf}
+use Rattle.scan.specs.Look.{listedPage, lookOf, LookedAt}
+use Rattle.scan.specs.Scan.{rangeRun}
+use Rattle.scan.specs.declared.Scan.{Scan}
+use Rattle.entry.specs.declared.Ground.{Ground}
+use Rattle.export.specs.Run.{Standing, placeOf, taking, stepped}
+use Rattle.calls.specs.Calls.{Effect, effectOf}
 use Rattle.calls.specs.declared.Call.{Call}
-use Rattle.calls.specs.declared.Call.the-variants.{New, Write, Add, Accept, Block, Unblock, Remove, Track, Start, Pause, Abort, NewEpoch, Reset, StartToken}
+use Rattle.calls.specs.declared.Call.the-variants.{New, Write, Add, Accept, Block, Unblock, Remove, Track, Start, Pause, Abort, NewEpoch, Reset, StartToken, Dscan, Dcheck, Export}
 use Rattle.calls.specs.declared.Returned.{Returned}
 
--- what a call's contract says of an answer and of the table that it leaves
-pub record Meets (c : Call) (s : Session) (t : List ℕ) (r : Returned) (u : List ℕ) : Type 0 where
-  pub returned : r ≡ effectOf c s t .returned
-  pub table : u ≡ effectOf c s t .table
+-- what a call's contract says of an answer, and of the table, the list and the buffer that it leaves
+pub record Meets (c : Call) (s : Session) (t l b : List ℕ) (r : Returned) (u m v : List ℕ) : Type 0 where
+  pub returned : r ≡ effectOf c s t l b .returned
+  pub table : u ≡ effectOf c s t l b .table
+  pub list : m ≡ effectOf c s t l b .list
+  pub buffer : v ≡ effectOf c s t l b .buffer
+
+-- two outcomes, the same in every part
+pub record Same (r r' : Returned) (u u' m m' v v' : List ℕ) : Type 0 where
+  pub answer : r ≡ r'
+  pub table : u ≡ u'
+  pub list : m ≡ m'
+  pub buffer : v ≡ v'
 
 -- no second outcome satisfies it
 pub record OneOutcome : Type 0 where
-  pub answer : (c : Call) (s : Session) (t : List ℕ) (r r' : Returned) (u u' : List ℕ) → Meets c s t r u → Meets c s t r' u' → r ≡ r'
-  pub table : (c : Call) (s : Session) (t : List ℕ) (r r' : Returned) (u u' : List ℕ) → Meets c s t r u → Meets c s t r' u' → u ≡ u'
+  pub one : (c : Call) (s : Session) (t l b : List ℕ) (r r' : Returned) (u u' m m' v v' : List ℕ) → Meets c s t l b r u m v → Meets c s t l b r' u' m' v' → Same r r' u u' m m' v v'
+
+-- 0 to 3 and 40 to 56
+abbrev pub named : ℕ → Bool
+named n = within 0 3 n || within 40 56 n
+
+-- every call answers with one of document 01's codes
+pub record AnswersNamed : Type 0 where
+  pub code : (c : Call) (s : Session) (t l b : List ℕ) → named (effectOf c s t l b .returned .code) ≡ true
 
 -- 40 to 50 and 52 to 56
 abbrev pub refusal : ℕ → Bool
 refusal n = within 40 50 n || within 52 56 n
 
--- they change nothing; and a page stands in an answer for 53 and 54 alone
+-- everything as it came; of the numbers the code alone, but for the page, of which `page` below tells
+pub record Kept (s : Session) (t l b : List ℕ) (e : Effect) : Type 0 where
+  pub session : e .returned .session ≡ s
+  pub table : e .table ≡ t
+  pub list : e .list ≡ l
+  pub buffer : e .buffer ≡ b
+  pub next : e .returned .next ≡ 0
+  pub first : e .returned .first ≡ 0
+  pub last : e .returned .last ≡ 0
+  pub info : e .returned .info ≡ 0
+  pub errors : e .returned .errors ≡ 0
+  pub buffers : e .returned .buffers ≡ 0
+
+-- a refusal changes nothing, and its answer is the code; a page stands in an answer for 53 and 54 alone
 pub record RefusalKeeps : Type 0 where
-  pub session : (c : Call) (s : Session) (t : List ℕ) → refusal (effectOf c s t .returned .code) ≡ true → effectOf c s t .returned .session ≡ s
-  pub table : (c : Call) (s : Session) (t : List ℕ) → refusal (effectOf c s t .returned .code) ≡ true → effectOf c s t .table ≡ t
-  pub page : (c : Call) (s : Session) (t : List ℕ) → eqb (effectOf c s t .returned .code) codes.exportedDirtyPagesRemain ≡ false → eqb (effectOf c s t .returned .code) codes.unexportedMemoryRemains ≡ false → effectOf c s t .returned .page ≡ 0
+  pub all : (c : Call) (s : Session) (t l b : List ℕ) → refusal (effectOf c s t l b .returned .code) ≡ true → Kept s t l b (effectOf c s t l b)
+  pub page : (c : Call) (s : Session) (t l b : List ℕ) → eqb (effectOf c s t l b .returned .code) codes.exportedDirtyPagesRemain ≡ false → eqb (effectOf c s t l b .returned .code) codes.unexportedMemoryRemains ≡ false → effectOf c s t l b .returned .page ≡ 0
 
 abbrev pub isNew : Call → Bool
 isNew (New created) = true
@@ -55,13 +91,22 @@ isNew Abort = false
 isNew NewEpoch = false
 isNew Reset = false
 isNew StartToken = false
+isNew (Dscan first count budget) = false
+isNew (Dcheck budget) = false
+isNew (Export stream resume info budget) = false
 
 -- no call but New changes a strange record
 pub record StrangeStays : Type 0 where
-  pub words : (c : Call) (s : Session) (t : List ℕ) (i : ℕ) → isNew c ≡ false → strange (pageAt t i) ≡ true → wordsAt (effectOf c s t .table) i ≡ wordsAt t i
+  pub words : (c : Call) (s : Session) (t l b : List ℕ) (i : ℕ) → isNew c ≡ false → strange (pageAt t i) ≡ true → wordsAt (effectOf c s t l b .table) i ≡ wordsAt t i
 
--- a call that is done has moved its page, or every page, and no other
+-- a call that is done has moved its page, or every page, and no other; an entry moves the page that it names and no other; after a scan every page's words are as
+-- they were or as the look that listed it left them, and those are the words of `listedPage`. Both epochs of a session that passes 40 are below 2 ^ 16, as a
+-- record's are; and past its tests a scan's range lies within the table (`dscan-fits`, `dcheck-fits` in `scan`).
 pub record PagesMove : Type 0 where
   pub one : (m : Move) (s : Session) (t : List ℕ) (at : ℕ) → onPage m s t at .answer .code ≡ 0 → pageAt (onPage m s t at .table) at ≡ stepOf m (pageAt t at) (s .tlb) .page
   pub others : (m : Move) (s : Session) (t : List ℕ) (at k : ℕ) → (k ≡ at → ⊥) → wordsAt (onPage m s t at .table) k ≡ wordsAt t k
   pub all : (k : Sweep) (s s' : Session) (t : List ℕ) (i : ℕ) → i < pageCount t → pageAt (answeredBy (sweptBy k) 0 s s' t .table) i ≡ unlessStrange (sweptBy k) (pageAt t i)
+  pub entry : (g : Ground) (x : Standing) → g .epoch < room → placeOf x < pageCount (x .table) → pageAt (stepped g x .table) (placeOf x) ≡ taking g x .page
+  pub beside : (g : Ground) (x : Standing) (k : ℕ) → (k ≡ placeOf x → ⊥) → wordsAt (stepped g x .table) k ≡ wordsAt (x .table) k
+  pub range : (count : ℕ) (scan : Scan) (t l : List ℕ) → 2 * scan .first + 2 * count ≤ length t → (k : ℕ) → LookedAt k (scan .tlb) (wordsAt t k) (wordsAt (rangeRun count scan t l .part) k)
+  pub look : (w : PageWords) (number tlb : ℕ) → tlb < room → pageOf (lookOf w number tlb .words) ≡ listedPage (pageOf w) tlb

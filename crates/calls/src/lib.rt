@@ -1,18 +1,36 @@
 // Every call of the bench as one data type, so that what holds of all of them is said once.
 ghost use mathlib.Core.Path.{_≡_};
-ghost use Rattle.calls.specs.Calls.{plainly, effectOf};
+ghost use mathlib.Core.List.{[]};
+ghost use Rattle.calls.specs.Calls.{withoutNumbers, scanNumbers, exportNumbers, effectOf};
+use export::ExportAnswer;
 use migration::token;
+use scan::ScanAnswer;
 use session::Answer;
 use session::Session;
 
 pub enum Call {
-    New { created: u64 },
-    Write { page: usize, mark: u64 },
-    Add { page: usize },
-    Accept { page: usize },
-    Block { page: usize },
-    Unblock { page: usize },
-    Remove { page: usize },
+    New {
+        created: u64,
+    },
+    Write {
+        page: usize,
+        mark: u64,
+    },
+    Add {
+        page: usize,
+    },
+    Accept {
+        page: usize,
+    },
+    Block {
+        page: usize,
+    },
+    Unblock {
+        page: usize,
+    },
+    Remove {
+        page: usize,
+    },
     Track,
     Start,
     Pause,
@@ -20,28 +38,91 @@ pub enum Call {
     NewEpoch,
     Reset,
     StartToken,
+    Dscan {
+        first: usize,
+        count: usize,
+        budget: usize,
+    },
+    Dcheck {
+        budget: usize,
+    },
+    Export {
+        stream: u64,
+        resume: bool,
+        info: u64,
+        budget: u64,
+    },
 }
 
-// A call's answer in numbers: the page is 0 but for 53 and 54.
+// A call's answer in numbers. Those that a call does not give are 0, and so are all but the code of a refusal and the page of 53 and 54.
 pub struct Returned {
     pub code: u64,
+    // The page in the way of a start token.
     pub page: usize,
+    // A scan's: the next page, and the first and the last entry of its list.
+    pub next: usize,
+    pub first: u64,
+    pub last: u64,
+    // An export's.
+    pub info: u64,
+    pub errors: u64,
+    pub buffers: u64,
     pub session: Session,
 }
 
-fn without_page(a: Answer) -> Returned
-    ensures { λ r. ⌜ r ≡ plainly a ⌝ }
+fn without_numbers(a: Answer) -> Returned
+    ensures { λ r. ⌜ r ≡ withoutNumbers a ⌝ }
+{
+    let session = a.session;
+    Returned {
+        code: a.code,
+        page: 0, // for 53 and 54 alone
+        next: 0,
+        first: 0,
+        last: 0,
+        info: 0,
+        errors: 0,
+        buffers: 0,
+        session,
+    }
+}
+
+fn scan_numbers(a: ScanAnswer) -> Returned
+    ensures { λ r. ⌜ r ≡ scanNumbers a ⌝ }
 {
     let session = a.session;
     Returned {
         code: a.code,
         page: 0,
+        next: a.next,
+        first: a.first,
+        last: a.last,
+        info: 0,
+        errors: 0,
+        buffers: 0,
+        session,
+    }
+}
+
+fn export_numbers(a: ExportAnswer) -> Returned
+    ensures { λ r. ⌜ r ≡ exportNumbers a ⌝ }
+{
+    let session = a.session;
+    Returned {
+        code: a.code,
+        page: 0,
+        next: 0,
+        first: 0,
+        last: 0,
+        info: a.info,
+        errors: a.errors,
+        buffers: a.buffers,
         session,
     }
 }
 
 fn start_token(s: Session, table: &[u64]) -> Returned
-    ensures { λ r. ⌜ r ≡ effectOf Call.StartToken s (now (table .entry)) .returned ⌝ }
+    ensures { λ r. ⌜ r ≡ effectOf Call.StartToken s (now (table .entry)) [] [] .returned ⌝ }
 {
     let answer = token::start_token(s, table);
     let token = answer.token;
@@ -51,28 +132,55 @@ fn start_token(s: Session, table: &[u64]) -> Returned
     Returned {
         code,
         page,
+        next: 0,
+        first: 0,
+        last: 0,
+        info: 0,
+        errors: 0,
+        buffers: 0,
         session,
     }
 }
 
-pub fn perform(call: Call, s: Session, table: &mut [u64]) -> Returned
-    ensures { λ r. ⌜ r ≡ effectOf call s (now (table .entry)) .returned ⌝ }
-    ensures { λ _. ⌜ now (table .exit) ≡ effectOf call s (now (table .entry)) .table ⌝ }
+// The calls that take no list leave the lent list and buffer alone.
+pub fn perform(
+    call: Call,
+    s: Session,
+    table: &mut [u64],
+    list: &mut [u64],
+    buffer: &mut [u64],
+) -> Returned
+    ensures { λ r. ⌜ r ≡ effectOf call s (now (table .entry)) (now (list .entry)) (now (buffer .entry)) .returned ⌝ }
+    ensures { λ _. ⌜ now (table .exit) ≡ effectOf call s (now (table .entry)) (now (list .entry)) (now (buffer .entry)) .table ⌝ }
+    ensures { λ _. ⌜ now (list .exit) ≡ effectOf call s (now (table .entry)) (now (list .entry)) (now (buffer .entry)) .list ⌝ }
+    ensures { λ _. ⌜ now (buffer .exit) ≡ effectOf call s (now (table .entry)) (now (list .entry)) (now (buffer .entry)) .buffer ⌝ }
 {
     match call {
-        Call::New { created } => without_page(memory::new(s, table, created)),
-        Call::Write { page, mark } => without_page(memory::write(s, table, page, mark)),
-        Call::Add { page } => without_page(memory::add(s, table, page)),
-        Call::Accept { page } => without_page(memory::accept(s, table, page)),
-        Call::Block { page } => without_page(memory::block(s, table, page)),
-        Call::Unblock { page } => without_page(memory::unblock(s, table, page)),
-        Call::Remove { page } => without_page(memory::remove(s, table, page)),
-        Call::Track => without_page(memory::track(s, table)),
-        Call::Start => without_page(migration::start(s, table)),
-        Call::Pause => without_page(migration::pause(s, table)),
-        Call::Abort => without_page(migration::abort(s, table)),
-        Call::NewEpoch => without_page(migration::new_epoch(s, &table[..])),
-        Call::Reset => without_page(migration::reset(s, &table[..])),
+        Call::New { created } => without_numbers(memory::new(s, table, created)),
+        Call::Write { page, mark } => without_numbers(memory::write(s, table, page, mark)),
+        Call::Add { page } => without_numbers(memory::add(s, table, page)),
+        Call::Accept { page } => without_numbers(memory::accept(s, table, page)),
+        Call::Block { page } => without_numbers(memory::block(s, table, page)),
+        Call::Unblock { page } => without_numbers(memory::unblock(s, table, page)),
+        Call::Remove { page } => without_numbers(memory::remove(s, table, page)),
+        Call::Track => without_numbers(memory::track(s, table)),
+        Call::Start => without_numbers(migration::start(s, table)),
+        Call::Pause => without_numbers(migration::pause(s, table)),
+        Call::Abort => without_numbers(migration::abort(s, table)),
+        Call::NewEpoch => without_numbers(migration::new_epoch(s, &table[..])),
+        Call::Reset => without_numbers(migration::reset(s, &table[..])),
         Call::StartToken => start_token(s, &table[..]),
+        Call::Dscan {
+            first,
+            count,
+            budget,
+        } => scan_numbers(scan::dscan(s, table, list, first, count, budget)),
+        Call::Dcheck { budget } => scan_numbers(scan::dcheck(s, table, list, budget)),
+        Call::Export {
+            stream,
+            resume,
+            info,
+            budget,
+        } => export_numbers(export::export(s, table, list, buffer, stream, resume, info, budget)),
     }
 }

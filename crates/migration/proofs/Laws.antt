@@ -1,9 +1,9 @@
 -- What a call knows once its code is 0, and the numbers of the token's cases.
 use mathlib.Core.Path.{_≡_, refl, sym, ap, _∙_}
 use mathlib.Core.Bool.{Bool, true, false, cond, _||_}
-use mathlib.Core.List.{List, [], _∷_}
+use mathlib.Core.List.{List}
 use Prim.Native.Nat.{ℕ, _+_, _<_}
-use lib.Dec.{eqb, leb}
+use lib.Dec.{eqb}
 use lib.ListN.{length}
 use borrow.Author.Tests.{leb-false, eqb-true}
 use Rattle.words.specs.Codes as codes
@@ -11,7 +11,7 @@ use Rattle.refusals.specs.Refusals.{_gives_}
 use Rattle.page.specs.Page.{gives53, gives54}
 use Rattle.table.specs.Table.{pageCount, lowest}
 use Rattle.session.specs.Session.{moving, unchecked, withEpoch, withCheck}
-use Rattle.session.specs.Formed.{busy, lastEpoch}
+use Rattle.session.specs.Formed.{lastEpoch}
 use Rattle.session.specs.declared.Session.{Session}
 use Rattle.session.proofs.Laws.{gate-open, table-kept}
 use Rattle.migration.specs.Migration.{newEpochTests, newEpochCode, newEpochOut, resetCode, resetOut}

@@ -1,13 +1,13 @@
 -- Reading a page and writing it back undo each other; and what a page may become, so that the table says it afterwards.
 use mathlib.Core.Path.{_≡_, refl, sym, ap, _∙_}
-use mathlib.Core.Bool.{Bool, true, false, not, _&&_, true≢false}
+use mathlib.Core.Bool.{Bool, true, false, true≢false}
 use Prim.Native.Nat.{ℕ, _^_, _<_}
-use lib.Dec.{eqb, ltb, lit<}
-use borrow.Author.Tests.{lt-ltb, ltb-true, eqb-true}
+use lib.Dec.{eqb, lit<}
+use borrow.Author.Tests.{lt-ltb, eqb-true}
 use Rattle.words.specs.Record.{recordOf, room, RecordFits, plain}
 use Rattle.words.proofs.RecordLaws.{record-word, word-record, record-fits}
 use Rattle.words.specs.declared.records.Record.{Record}
-use Rattle.refusals.proofs.Laws.{and-left, and-right, not-true}
+use Rattle.refusals.proofs.Laws.{and-left, and-right}
 use Rattle.states.specs.States.{stateOf, numberOf, same}
 use Rattle.states.specs.declared.State.the-variants.{Strange}
 use Rattle.states.specs.Rows.{rowOf}

@@ -1,7 +1,7 @@
 -- Every move of a page is one that a table can hold, and leaves a strange page alone: a state that has no move is taken to Strange, and Strange has none.
 use mathlib.Core.Path.{_≡_, refl, sym, ap, _∙_}
 use mathlib.Core.Bool.{Bool, true, false, cond, not, _&&_, _||_, true≢false, false≢true}
-use Prim.Native.Nat.{ℕ, _^_, _<_}
+use Prim.Native.Nat.{ℕ, _<_}
 use lib.Dec.{eqb, lit<}
 use Rattle.words.specs.Codes as codes
 use Rattle.words.specs.Record.{room}
@@ -21,7 +21,7 @@ use Rattle.page.specs.declared.sweeps.Sweep.{Sweep}
 use Rattle.page.specs.declared.sweeps.Sweep.the-variants.{Uncache, Start, Abort}
 use Rattle.page.proofs.Laws.{Held, Becomes, strange-written}
 
-strange-state : (p : Page) → strange p ≡ true → p .state ≡ Strange
+pub strange-state : (p : Page) → strange p ≡ true → p .state ≡ Strange
 unfolding rowOf
 strange-state p e = strange-same (p .state) e
 

@@ -8,6 +8,11 @@ use lib.Dec.{ltb, eqb}
 use borrow.Author.Tests.{ltb-true, eqb-false}
 use Rattle.refusals.specs.Refusals.{Test, firstOf}
 
+-- what holds either way holds of what a test picks
+pub either : {A : Type 0} (P : A → Type 0) (b : Bool) {x y : A} → (b ≡ true → P x) → (b ≡ false → P y) → P (cond b x y)
+either P true f g = f refl
+either P false f g = g refl
+
 -- no test holds
 abbrev pub Passed : List Test → Type 0
 Passed [] = Unit
@@ -45,6 +50,17 @@ passed (t ∷ l) k e = go (t .holds) refl e (passed l (and-right (ltb 0 (t .code
 pub passed-code : (l : List Test) → Passed l → firstOf l ≡ 0
 passed-code [] p = refl
 passed-code (t ∷ l) p = rw (p .0) (passed-code l (p .1))
+
+-- what holds of every test's code
+abbrev pub allCodes : (ℕ → Bool) → List Test → Bool
+allCodes f [] = true
+allCodes f (t ∷ l) = f (t .code) && allCodes f l
+
+-- and of 0, holds of the first one's
+pub first-all : (f : ℕ → Bool) (l : List Test) → f 0 ≡ true → allCodes f l ≡ true → f (firstOf l) ≡ true
+first-all f [] h e = h
+first-all f (t ∷ l) h e =
+    either (λ (n : ℕ). f n ≡ true) (t .holds) (λ q. and-left (f (t .code)) (allCodes f l) e) (λ q. first-all f l h (and-right (f (t .code)) (allCodes f l) e))
 
 -- ---- a code that is not 0
 

@@ -1,12 +1,11 @@
-// The host's hand on what is the host's to keep: the session, in which it sets any field to any value, and how many words it lends.
+// The host's hand on what is the host's to keep: the session, in which it sets any field to any value, and how many words of each space it lends.
 use crate::lines::Line;
 use crate::names;
 use session::Check;
 use session::Phase;
 use session::Session;
+use session::streams;
 use session::streams::Run;
-use session::streams::STREAM_PLACES;
-use session::streams::Stream;
 
 // The session that a scenario begins with.
 pub(crate) fn zeros() -> Session {
@@ -15,7 +14,7 @@ pub(crate) fn zeros() -> Session {
         complete: false,
         failed: false,
     };
-    let streams = session::streams::at_rest();
+    let streams = streams::at_rest();
     Session {
         phase: Phase::Idle,
         pages: 0,
@@ -35,16 +34,6 @@ fn phase_of(n: u64) -> Phase {
         2 => Phase::Blackout,
         _ => Phase::Done,
     }
-}
-
-// A stream for which the session has no place is none of its.
-fn with_stream(s: Session, at: usize, run: Run) -> Session {
-    if STREAM_PLACES <= at {
-        return s;
-    }
-    let mut next = s;
-    next.streams[at] = Stream { run };
-    next
 }
 
 // The session with the change that the line asks for.
@@ -69,18 +58,31 @@ pub(crate) fn changed(s: Session, l: Line) -> Session {
                 errors: l.fourth,
                 pages: l.fifth,
             };
-            return with_stream(s, v as usize, run);
+            return streams::with_run(s, v, run);
         }
-        names::REST => return with_stream(s, v as usize, Run::AtRest),
+        names::REST => return streams::with_run(s, v, Run::AtRest),
         _ => {}
     }
     next
 }
 
-// How many words are lent after the line.
-pub(crate) fn lent_after(lent: usize, l: Line) -> usize {
-    if l.name == names::LEND {
-        return l.first as usize;
+// How many words of each space are lent, if it has so many.
+pub(crate) struct Lent {
+    pub table: usize,
+    pub list: usize,
+    pub buffer: usize,
+}
+
+// What is lent after the line.
+pub(crate) fn lent_after(lent: Lent, l: Line) -> Lent {
+    let name = l.name;
+    let n = l.first as usize;
+    let mut next = lent;
+    match name {
+        names::LEND => next.table = n,
+        names::LIST => next.list = n,
+        names::BUFFER => next.buffer = n,
+        _ => {}
     }
-    lent
+    next
 }

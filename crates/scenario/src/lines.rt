@@ -1,5 +1,5 @@
 // A line of standard input, byte by byte: a word of letters, and numbers behind it.
-ghost use Prim.Native.Nat.{_<_};
+ghost use Prim.Native.Nat.{_≤_, _<_};
 use crate::names;
 
 // The largest number.
@@ -15,8 +15,9 @@ pub(crate) struct Line {
     pub parts: u64,
     // The word, as `names` has it.
     pub name: u64,
-    // The number that is being read.
+    // The number that is being read, and whether in hexadecimal.
     pub number: u64,
+    pub hex: bool,
     // The numbers, 0 where there is none.
     pub first: u64,
     pub second: u64,
@@ -33,6 +34,7 @@ pub(crate) fn empty() -> Line {
         parts: 0,
         name: names::NONE,
         number: 0,
+        hex: false,
         first: 0,
         second: 0,
         third: 0,
@@ -57,14 +59,74 @@ fn begun(l: Line) -> Line {
     let mut next = l;
     next.within = true;
     next.number = 0;
+    next.hex = false;
     if l.parts < 7 {
         next.parts = l.parts + 1;
     }
     next
 }
 
-// Letters are of the word, and no word has more than eight.
+// What a digit counts by.
+fn base_of(hex: bool) -> u64
+    ensures { λ r. ⌜ 1 ≤ r ⌝ }
+{
+    if hex { 16 } else { 10 }
+}
+
+// The line with a value for the number that is being read, of which the word has none.
+fn with_number(l: Line, v: u64) -> Line {
+    let mut next = l;
+    next.number = v;
+    let parts = l.parts;
+    match parts {
+        0 | 1 => return unreadable(l),
+        2 => next.first = v,
+        3 => next.second = v,
+        4 => next.third = v,
+        5 => next.fourth = v,
+        6 => next.fifth = v,
+        _ => {}
+    }
+    next
+}
+
+// Digits are of a number, which is of 64 bits.
+fn with_digit(l: Line, d: u64) -> Line
+    requires { ⌜ d < 16 ⌝ }
+{
+    let next = begun(l);
+    let base = base_of(next.hex);
+    if (LARGEST - d) / base < next.number {
+        return unreadable(next);
+    }
+    with_number(next, next.number * base + d)
+}
+
+// A letter in a number that has begun: after zeros alone `x` makes it hexadecimal, and then six letters are digits.
+fn within_number(l: Line, b: u8) -> Line {
+    match b {
+        b'a'..=b'f' => {
+            if l.hex {
+                return with_digit(l, (b - b'a') as u64 + 10);
+            }
+        }
+        b'x' => {
+            if (l.number == 0) & !l.hex {
+                let mut next = l;
+                next.hex = true;
+                return next;
+            }
+        }
+        _ => {}
+    }
+    unreadable(l)
+}
+
+// Other letters are of the word, and no word has more than eight.
 fn with_letter(l: Line, b: u8) -> Line {
+    if l.within & (1 < l.parts) {
+        return within_number(l, b);
+    }
     let mut next = begun(l);
     if next.parts != 1 {
         return unreadable(next);
@@ -73,29 +135,6 @@ fn with_letter(l: Line, b: u8) -> Line {
         return unreadable(next);
     }
     next.name = (next.name << 8) | (b as u64);
-    next
-}
-
-// Digits are of a number, which is of 64 bits.
-fn with_digit(l: Line, d: u64) -> Line
-    requires { ⌜ d < 10 ⌝ }
-{
-    let mut next = begun(l);
-    if (LARGEST - d) / 10 < next.number {
-        return unreadable(next);
-    }
-    let v = next.number * 10 + d;
-    next.number = v;
-    let parts = next.parts;
-    match parts {
-        0 | 1 => return unreadable(next),
-        2 => next.first = v,
-        3 => next.second = v,
-        4 => next.third = v,
-        5 => next.fourth = v,
-        6 => next.fifth = v,
-        _ => {}
-    }
     next
 }
 

@@ -9,7 +9,15 @@ pub(crate) const UNREADABLE: u64 = 1;
 // Words of the host's hand.
 pub(crate) const LEND: u64 = 0x6c_65_6e_64;
 
+pub(crate) const LIST: u64 = 0x6c_69_73_74;
+
+pub(crate) const BUFFER: u64 = 0x62_75_66_66_65_72;
+
 pub(crate) const WORD: u64 = 0x77_6f_72_64;
+
+pub(crate) const ENTRY: u64 = 0x65_6e_74_72_79;
+
+pub(crate) const CONTENT: u64 = 0x63_6f_6e_74_65_6e_74;
 
 pub(crate) const PHASE: u64 = 0x70_68_61_73_65;
 
@@ -56,9 +64,19 @@ pub(crate) const ABORT: u64 = 0x61_62_6f_72_74;
 
 pub(crate) const NEWEPOCH: u64 = 0x6e_65_77_65_70_6f_63_68;
 
+pub(crate) const DSCAN: u64 = 0x64_73_63_61_6e;
+
+pub(crate) const DCHECK: u64 = 0x64_63_68_65_63_6b;
+
 pub(crate) const RESET: u64 = 0x72_65_73_65_74;
+
+pub(crate) const EXPORT: u64 = 0x65_78_70_6f_72_74;
 
 pub(crate) const TOKEN: u64 = 0x74_6f_6b_65_6e;
 
-// What prints words of the space.
+// What prints words of a space: the table's, the list's, the buffer's.
 pub(crate) const SHOW: u64 = 0x73_68_6f_77;
+
+pub(crate) const LISTED: u64 = 0x6c_69_73_74_65_64;
+
+pub(crate) const SENT: u64 = 0x73_65_6e_74;

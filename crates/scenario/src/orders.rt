@@ -1,4 +1,5 @@
 // What a line asks for.
+use crate::lines::Line;
 use crate::names;
 use calls::Call;
 
@@ -10,8 +11,11 @@ pub(crate) enum Order {
     Other,
 }
 
-// What a word asks for, with the first two numbers behind it.
-pub(crate) fn order_of(name: u64, first: u64, second: u64) -> Order {
+// What a line's word asks for, with the numbers behind it.
+pub(crate) fn order_of(l: Line) -> Order {
+    let name = l.name;
+    let first = l.first;
+    let second = l.second;
     let page = first as usize;
     match name {
         names::NEW => Order::Call(Call::New { created: first }),
@@ -26,7 +30,21 @@ pub(crate) fn order_of(name: u64, first: u64, second: u64) -> Order {
         names::PAUSE => Order::Call(Call::Pause),
         names::ABORT => Order::Call(Call::Abort),
         names::NEWEPOCH => Order::Call(Call::NewEpoch),
+        names::DSCAN => Order::Call(Call::Dscan {
+            first: page,
+            count: second as usize,
+            budget: l.third as usize,
+        }),
+        names::DCHECK => Order::Call(Call::Dcheck {
+            budget: first as usize,
+        }),
         names::RESET => Order::Call(Call::Reset),
+        names::EXPORT => Order::Call(Call::Export {
+            stream: first,
+            resume: second != 0,
+            info: l.third,
+            budget: l.fourth,
+        }),
         names::TOKEN => Order::Call(Call::StartToken),
         names::PHASE
         | names::PAGES

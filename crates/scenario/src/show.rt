@@ -1,5 +1,7 @@
 // What the program prints.
+use calls::Returned;
 use libc::STDOUT_FILENO;
+use session::Check;
 use session::Phase;
 use session::Session;
 use session::streams::Run;
@@ -100,6 +102,13 @@ fn streams(s: Session) {
     }
 }
 
+// What the check of a migration came to.
+fn check(c: Check) {
+    number(b" place ", c.place as u64);
+    number(b" complete ", c.complete as u64);
+    number(b" failed ", c.failed as u64);
+}
+
 // Every field of the session.
 fn session(s: Session) {
     let phase = s.phase;
@@ -108,17 +117,41 @@ fn session(s: Session) {
     number(b" tlb ", s.tlb);
     number(b" epoch ", s.epoch);
     number(b" created ", s.created);
-    number(b" place ", s.check.place as u64);
-    number(b" complete ", s.check.complete as u64);
-    number(b" failed ", s.check.failed as u64);
+    let c = s.check;
+    check(c);
     streams(s);
 }
 
-// A line of what a call answered, the session that it gave back, and the digest of the whole space.
-pub(crate) fn returned(code: u64, page: usize, s: Session, space: &[u64]) {
-    number(b"code ", code);
-    number(b" page ", page as u64);
+// What a scan answers behind its code.
+fn scan(next: usize, first: u64, last: u64) {
+    number(b" next ", next as u64);
+    number(b" first ", first);
+    number(b" last ", last);
+}
+
+// What an export answers behind its code.
+fn export(info: u64, errors: u64, buffers: u64) {
+    text(b" info");
+    word(false, info);
+    number(b" errors ", errors);
+    number(b" buffers ", buffers);
+}
+
+// What a call answered, and the session that it gave back.
+fn answer(r: Returned) {
+    number(b"code ", r.code);
+    number(b" page ", r.page as u64);
+    scan(r.next, r.first, r.last);
+    export(r.info, r.errors, r.buffers);
+    let s = r.session;
     session(s);
-    number(b" table ", digest(space));
+}
+
+// A line of what a call returned, and of the digest of each whole space.
+pub(crate) fn returned(r: Returned, table: &[u64], list: &[u64], buffer: &[u64]) {
+    answer(r);
+    number(b" table ", digest(table));
+    number(b" list ", digest(list));
+    number(b" buffer ", digest(buffer));
     end();
 }

@@ -1,18 +1,22 @@
 -- What callers know of the gate, and of a session that has passed it. They use these laws, and not the text of `formed`.
 use mathlib.Core.Path.{_≡_, refl, ap}
 use mathlib.Core.Bool.{Bool, true, false, cond, not}
-use mathlib.Core.List.{List, [], _∷_}
-use Prim.Native.Nat.{ℕ, _<_}
+use mathlib.Core.List.{List, []}
+use Prim.Native.Nat.{ℕ, _+_, _≤_, _<_}
+use native.Mathlib.Omega.{arith}
 use lib.Dec.{eqb}
 use Rattle.words.specs.Codes as codes
 use Rattle.refusals.specs.Refusals.{Test, firstOf}
-use Rattle.refusals.proofs.Laws.{Passed, coded, passed, passed-code, Ends, once, ended, not-false}
+use Rattle.refusals.proofs.Laws.{either, Passed, coded, passed, passed-code, Ends, once, ended, not-false}
 use Rattle.table.specs.Table.{wordsAt}
 use Rattle.session.specs.Session.{among}
 use Rattle.session.specs.Formed.{formed, gateTests, gated}
 use Rattle.session.specs.Outcome.{Outcome, outcome, answered}
 use Rattle.session.specs.declared.Phase.{Phase}
 use Rattle.session.specs.declared.Session.{Session}
+
+pub below-next : (a b : ℕ) → a ≤ b → a ≤ b + 1
+below-next a b h = omega arith
 
 -- the gate's code goes before a call's own tests
 pub gate-first : (s : Session) (len : ℕ) (phases : List Phase) (l : List Test) → gated s len phases l ≡ cond (eqb (gated s len phases []) 0) (firstOf l) (gated s len phases [])
@@ -27,11 +31,7 @@ gate-first s len phases l = go (not (formed s len)) (not (among phases (s .phase
 -- what holds of the outcome that a call makes and of the one that gives back what came holds of its answer
 pub answered-either : (P : Outcome → Type 0) (code : ℕ) (s : Session) (t : List ℕ) (s' : Session) (t' : List ℕ) → (eqb code 0 ≡ true → P (outcome code s' t')) → (eqb code 0 ≡ false → P (outcome code s t)) → P (answered code s t s' t')
 unfolding answered
-answered-either P code s t s' t' made kept = go (eqb code 0) refl
-  where
-    go : (b : Bool) → eqb code 0 ≡ b → P (cond b (outcome code s' t') (outcome code s t))
-    go true e = made e
-    go false e = kept e
+answered-either P code s t s' t' made kept = either P (eqb code 0) made kept
 
 -- a call that makes no other table leaves the table
 pub table-kept : (code : ℕ) (s s' : Session) (t : List ℕ) → answered code s t s' t .table ≡ t

@@ -28,6 +28,10 @@ mostCreated = 9
 abbrev pub lastEntry : ℕ
 lastEntry = 511
 
+-- the longest list
+abbrev pub mostEntries : ℕ
+mostEntries = lastEntry + 1
+
 -- lo to hi
 abbrev pub within : ℕ → ℕ → ℕ → Bool
 within lo hi n = leb lo n && leb n hi
@@ -72,9 +76,13 @@ abbrev pub runIs : Asked → Bool → Run → Bool
 runIs asked.Formed may r = runFormed may r
 runIs asked.AtRest may r = runResting r
 
--- index below N−1 is usable; a stream is interrupted neither in Idle nor in Done
+-- index below N−1 is usable
+abbrev pub usable : Session → ℕ → Bool
+usable s i = ltb (i + 1) (s .created)
+
+-- only a usable stream is interrupted, and neither in Idle nor in Done
 abbrev pub streamIs : Asked → Session → ℕ → Bool
-streamIs k s i = runIs k (among moving (s .phase) && ltb (i + 1) (s .created)) (getD (s .streams) i resting .run)
+streamIs k s i = runIs k (among moving (s .phase) && usable s i) (getD (s .streams) i resting .run)
 
 -- f holds at every number below n
 abbrev pub allBelow : (ℕ → Bool) → ℕ → Bool

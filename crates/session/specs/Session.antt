@@ -1,9 +1,9 @@
 -- The session: what New makes, and sessions made from others.
-use mathlib.Core.Bool.{Bool, false, _||_}
+use mathlib.Core.Bool.{Bool, false, cond, _||_}
 use mathlib.Core.List.{List, [], _∷_}
 use Prim.Native.Nat.{ℕ}
-use lib.Dec.{eqb}
-use lib.ListN.{replicate}
+use lib.Dec.{eqb, ltb}
+use lib.ListN.{getD, set, replicate}
 use Rattle.session.specs.declared.Phase.{Phase}
 use Rattle.session.specs.declared.Phase.the-variants.{Idle, Live, Blackout, Done}
 use Rattle.session.specs.declared.Check.{Check}
@@ -12,6 +12,7 @@ use Rattle.session.specs.declared.Comes.{Comes}
 use Rattle.session.specs.declared.When.{When}
 use Rattle.session.specs.declared.When.the-variants as when
 use Rattle.session.specs.declared.streams.Stream.{Stream}
+use Rattle.session.specs.declared.streams.Run.{Run}
 use Rattle.session.specs.declared.streams.Run.the-variants.{AtRest}
 
 -- ---- phases
@@ -86,3 +87,13 @@ withEpoch s epoch =
 abbrev pub withCheck : Session → Check → Session
 withCheck s check =
     record { phase = s .phase; pages = s .pages; tlb = s .tlb; epoch = s .epoch; created = s .created; check = check; streams = s .streams }
+
+-- what a stream is doing; at rest where the session has no place for it
+unfoldable pub runOf : Session → ℕ → Run
+runOf s i = cond (ltb i streamPlaces) (getD (s .streams) i resting .run) AtRest
+
+unfoldable pub withRun : Session → ℕ → Run → Session
+withRun s i run =
+    cond (ltb i streamPlaces)
+    (record { phase = s .phase; pages = s .pages; tlb = s .tlb; epoch = s .epoch; created = s .created; check = s .check; streams = set (s .streams) i (record { run = run }) })
+    s

@@ -252,14 +252,19 @@ pub fn with_epoch(s: Session, epoch: u64) -> Session
     next
 }
 
+pub fn with_check(s: Session, check: Check) -> Session
+    ensures { λ r. ⌜ r ≡ withCheck s check ⌝ }
+{
+    let mut next = s;
+    next.check = check;
+    next
+}
+
 // The check begins anew.
 pub fn reset_check(s: Session) -> Session
     ensures { λ r. ⌜ r ≡ withCheck s unchecked ⌝ }
 {
-    let check = no_check();
-    let mut next = s;
-    next.check = check;
-    next
+    with_check(s, no_check())
 }
 
 // ---- the end of a call

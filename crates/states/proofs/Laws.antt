@@ -1,11 +1,13 @@
--- A state's number names it, and no other number does.
+-- A state's number names it, and no other number does; and the numbers that a list word has for it fit their runs.
 use mathlib.Core.Path.{_≡_, refl, sym, ap, _∙_}
-use mathlib.Core.Bool.{Bool, true, false, cond, true≢false}
+use mathlib.Core.Bool.{Bool, true, false, cond, _&&_, true≢false}
 use mathlib.Core.List.{List, [], _∷_}
 use Prim.Native.Nat.{ℕ, _^_, _<_}
-use lib.Dec.{eqb, lit<}
-use borrow.Author.Tests.{eqb-true}
+use lib.Dec.{eqb, ltb, lit<}
+use borrow.Author.Tests.{eqb-true, ltb-true}
+use Rattle.refusals.proofs.Laws.{either, and-left, and-right}
 use Rattle.states.specs.States.{numberOf, plainStates, numbered, stateOf, same}
+use Rattle.states.specs.Lists.{Numbered, numberIn, hinted, operated, listingOf}
 use Rattle.states.specs.declared.State.{State}
 use Rattle.states.specs.declared.State.the-variants.{Free, Blocked, Pending, PendingBlocked, Mapped, Exported, ExportedModified, ExportedBlocked, ExportedRemoved, PendingExported, PendingExportedModified, PendingExportedBlocked, Strange}
 
@@ -56,3 +58,23 @@ number-state n e = numbered-number plainStates n e
 -- a state that is as good as Strange is Strange
 pub strange-same : (s : State) → same s Strange ≡ true → s ≡ Strange
 strange-same s e = sym (state-number s) ∙ ap stateOf (eqb-true _ _ e) ∙ state-number Strange
+
+-- ---- what a list word says of a state fits its run
+
+-- every number of a list is below some bound
+abbrev below : ℕ → List Numbered → Bool
+below n [] = true
+below n (x ∷ l) = ltb (x .number) n && below n l
+
+number-below : (n : ℕ) (l : List Numbered) (s : State) → 0 < n → below n l ≡ true → numberIn l s < n
+number-below n [] s h e = h
+number-below n (x ∷ l) s h e =
+    either (λ (k : ℕ). k < n) (same s (x .state)) (λ q. ltb-true _ _ (and-left (ltb (x .number) n) (below n l) e)) (λ q. number-below n l s h (and-right (ltb (x .number) n) (below n l) e))
+
+pub hint-lt : (s : State) → listingOf s .hint < 2 ^ 2
+unfolding listingOf
+hint-lt s = number-below (2 ^ 2) hinted s (lit< tt) refl
+
+pub operation-lt : (s : State) → listingOf s .operation < 2 ^ 2
+unfolding listingOf
+operation-lt s = number-below (2 ^ 2) operated s (lit< tt) refl

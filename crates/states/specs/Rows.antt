@@ -1,4 +1,4 @@
--- What each state allows and where each call takes it, as document 01 lists the states: the one place where they are listed.
+-- What each state allows and where each call takes it, as document 01 lists the states: with `Lists`, which has what scans and exports make of them, the one place where they are listed.
 use mathlib.Core.Bool.{cond}
 use mathlib.Core.List.{List, [], _∷_}
 use Rattle.states.specs.States.{isIn, same}

@@ -4,6 +4,9 @@ ghost use Rattle.states.specs.States.{stateOf, numberOf};
 ghost use Rattle.states.specs.Rows.{rowOf};
 use words::states;
 
+// What scans and exports make of a state.
+pub mod lists;
+
 pub enum State {
     Free,
     Blocked,

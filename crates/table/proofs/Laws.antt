@@ -28,6 +28,11 @@ pub put-length : (t : List ℕ) (i : ℕ) (w : PageWords) → length (putAt t i 
 unfolding putAt
 put-length t i w = length-cond (ltb i (pageCount t)) (set (set t (2 * i) (w .word)) (2 * i + 1) (w .mark)) t (simp length-set)
 
+-- past the end nothing is written
+put-past : (t : List ℕ) (i : ℕ) (w : PageWords) → ltb i (pageCount t) ≡ false → putAt t i w ≡ t
+unfolding putAt
+put-past t i w e = rw e
+
 pub put-same : (t : List ℕ) (i : ℕ) (w : PageWords) → i < pageCount t → wordsAt (putAt t i w) i ≡ w
 unfolding wordsAt putAt
 put-same t i w h =
@@ -50,6 +55,14 @@ put-other t i k w ne = go (ltb i (pageCount t))
         let d : 2 * k + 1 ≡ 2 * i → ⊥ = λ e. omega arith in
         rw (length-set, length-set, getD-set-other v (2 * i + 1) (2 * k) (w .mark) 0 a, getD-set-other t (2 * i) (2 * k) (w .word) 0 b, getD-set-other v (2 * i + 1) (2 * k + 1) (w .mark) 0 c, getD-set-other t (2 * i) (2 * k + 1) (w .word) 0 d)
     go false = refl
+
+-- words that are put back where they were, past the end too
+pub put-back : (t : List ℕ) (i : ℕ) → wordsAt (putAt t i (wordsAt t i)) i ≡ wordsAt t i
+put-back t i = go (ltb i (pageCount t)) refl
+  where
+    go : (b : Bool) → ltb i (pageCount t) ≡ b → wordsAt (putAt t i (wordsAt t i)) i ≡ wordsAt t i
+    go true q = put-same t i (wordsAt t i) (ltb-true _ _ q)
+    go false q = ap (λ (u : List ℕ). wordsAt u i) (put-past t i (wordsAt t i) q)
 
 -- ---- a sweep, for any move of a page's words
 

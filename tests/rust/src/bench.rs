@@ -1,6 +1,7 @@
-//! The bench of document 01. A call is a function of the session, the lent table and its operands; session and table are plain values, so that it can be called beside another implementation.
+//! The bench of document 01. A call is a function of the session, the lent words and its operands; session and words are plain values, so that it can be called beside another implementation.
 
 pub mod codes;
+pub mod export;
 pub mod memory;
 pub mod record;
 pub mod scans;
@@ -16,17 +17,29 @@ pub const LAST_EPOCH: u64 = 65_535;
 /// The longest table, in words.
 pub const MOST_WORDS: usize = 8_192;
 
-/// What a call without a list answers.
-#[derive(Clone, Copy, Debug, PartialEq, Eq)]
+/// The longest list and the longest buffer, in words.
+pub const MOST_ENTRIES: usize = 512;
+
+/// What a call answers. A number that the call does not give is 0, and in a refusal so is every number but the code and the page.
+#[derive(Clone, Copy, Debug, Default, PartialEq, Eq)]
 pub struct Answer {
     pub code: u64,
     /// The lowest page in the way for 53 and 54, else 0.
     pub page: u64,
+    /// The page at which a scan stopped.
+    pub next: u64,
+    /// The first and the last entry that a scan listed; 511 and 0 when there is none.
+    pub first: u64,
+    pub last: u64,
+    /// The info word of an export, with the next entry as its FIRST.
+    pub info: u64,
+    pub errors: u64,
+    pub buffers: u64,
 }
 
 impl Answer {
     fn plain(code: u64) -> Self {
-        Answer { code, page: 0 }
+        Answer { code, ..Answer::default() }
     }
 }
 

@@ -1,16 +1,21 @@
 //! Scenarios that nobody wrote: lines for the program `scenario`, at random.
 
+mod lists;
+
 use crate::bench::record::{Record, BASE};
 use crate::bench::session::Phase;
-use crate::bench::MOST_WORDS;
+use crate::bench::{MOST_ENTRIES, MOST_WORDS};
 use crate::random::Random;
-use crate::scenario::{Scenario, SPACE};
+use crate::scenario::Scenario;
 
 /// The words of the calls.
-pub const CALLS: [&str; 14] = [
+pub const CALLS: [&str; 17] = [
     "new", "write", "add", "accept", "block", "unblock", "remove", "track", "start", "pause", "abort", "newepoch",
-    "reset", "token",
+    "dscan", "dcheck", "reset", "export", "token",
 ];
+
+/// Those that a guest's life is made of.
+const GUEST: [&str; 9] = ["write", "write", "add", "accept", "accept", "block", "unblock", "remove", "track"];
 
 /// Numbers at the bounds of some field, and far beyond all of them.
 const BOUNDS: [u64; 22] = [
@@ -18,13 +23,17 @@ const BOUNDS: [u64; 22] = [
     u64::MAX,
 ];
 
+/// The words that are kept for the table, and for list and buffer each.
+const SPACE: u64 = MOST_WORDS as u64 + 2;
+const LISTS: u64 = MOST_ENTRIES as u64 + 2;
+
 /// The session's fields that may be any number.
 const NUMBERS: [&str; 5] = ["pages", "tlb", "epoch", "created", "place"];
 
 /// At least `length` lines: histories from New, well-formed sessions over any records, such sessions with one field changed, and anything at all.
 pub fn random_scenario(seed: u64, length: usize) -> String {
     let random = &mut Random::new(seed);
-    let mut history = History { scenario: Scenario::default(), lines: Vec::new(), pages: 1 };
+    let mut history = History { scenario: Scenario::default(), lines: Vec::new(), pages: 1, listed: 0 };
     while history.lines.len() < length {
         history.pages = if random.one_in(10) { MOST_WORDS as u64 / 2 } else { 1 + random.below(4) };
         match random.below(8) {
@@ -43,6 +52,8 @@ struct History {
     lines: Vec<String>,
     /// The page count of the guest at hand, whatever the session says.
     pages: u64,
+    /// The last entry that the last scan listed.
+    listed: u64,
 }
 
 impl History {
@@ -51,7 +62,7 @@ impl History {
         self.lines.push(line);
     }
 
-    /// A guest's life and migration, in which the host pokes what calls with a list would do.
+    /// A guest's life and migration, with the host's hand in it.
     fn after_new(&mut self, random: &mut Random) {
         self.say(format!("lend {}", 2 * self.pages));
         self.say(format!("new {}", 2 + random.below(8)));
@@ -62,15 +73,14 @@ impl History {
         for _ in 0..60 {
             let phase = self.scenario.session.phase;
             match random.below(30) {
-                0 | 1 => {
-                    let page = random.pick(&self.some_pages());
-                    self.poke(random, page);
-                }
+                0 | 1 => self.poke_one(random),
                 2..=5 if phase == Phase::Blackout => self.towards_the_token(random),
                 6 => self.interrupt(random),
-                7..=9 if phase != Phase::Idle => (0..8).for_each(|index| self.say(format!("rest {index}"))),
-                10 if random.one_in(4) => self.say(format!("tlb {}", random.pick(&[65_534, 65_535]))),
-                11 if phase != Phase::Idle && random.one_in(4) => self.say("epoch 65534".to_owned()),
+                7 if phase != Phase::Idle => (0..8).for_each(|index| self.say(format!("rest {index}"))),
+                8 if random.one_in(4) => self.say(format!("tlb {}", random.pick(&[65_534, 65_535]))),
+                9 if phase != Phase::Idle && random.one_in(4) => self.say("epoch 65534".to_owned()),
+                10..=13 if matches!(phase, Phase::Live | Phase::Blackout) => self.round(random),
+                14..=16 if self.scenario.session.busy() => self.go_on(random),
                 _ => self.fitting_call(random),
             }
         }
@@ -81,7 +91,10 @@ impl History {
         self.well_formed(random);
         self.some_pages().into_iter().for_each(|page| self.poke(random, page));
         for _ in 0..1 + random.below(4) {
-            self.any_call(random);
+            match self.scenario.session.phase {
+                Phase::Live | Phase::Blackout if random.one_in(3) => self.round(random),
+                _ => self.any_call(random),
+            }
         }
     }
 
@@ -106,23 +119,33 @@ impl History {
 
     /// Any numbers anywhere.
     fn anything(&mut self, random: &mut Random) {
-        for field in ["lend", "phase", "pages", "tlb", "epoch", "created", "place", "complete", "failed", "rest"] {
+        for field in [
+            "lend", "list", "buffer", "phase", "pages", "tlb", "epoch", "created", "place", "complete", "failed",
+            "rest",
+        ] {
             if random.one_in(2) {
                 self.say(format!("{field} {}", random.pick(&BOUNDS)));
             }
         }
         self.say(near_a_stream(random));
         for _ in 0..4 {
-            self.say(format!("word {} {}", random.below(SPACE as u64 + 2), random.uneven_word()));
+            self.put_anywhere(random);
             self.any_call(random);
         }
-        let from = random.below(SPACE as u64);
-        self.say(format!("show {from} {}", from + random.below(20)));
+        let (word, words) = random.pick(&[("show", SPACE), ("listed", LISTS), ("sent", LISTS)]);
+        let from = random.below(words);
+        self.say(format!("{word} {from} {}", from + random.below(20)));
+    }
+
+    /// Any word anywhere in one of the spaces, or just beyond.
+    fn put_anywhere(&mut self, random: &mut Random) {
+        let (word, words) = random.pick(&[("word", SPACE), ("entry", LISTS), ("content", LISTS)]);
+        self.say(format!("{word} {} {}", random.below(words + 2), random.uneven_word()));
     }
 
     fn well_formed(&mut self, random: &mut Random) {
-        let phase = random.below(4);
-        let complete = random.one_in(2);
+        let phase = random.pick(&[0, 1, 1, 2, 2, 3]);
+        let complete = random.one_in(3);
         self.say(format!("lend {}", 2 * self.pages));
         self.say(format!("phase {phase}"));
         self.say(format!("pages {}", self.pages));
@@ -131,7 +154,7 @@ impl History {
         self.say(format!("created {}", 2 + random.below(8)));
         self.say(format!("place {}", if complete { self.pages } else { random.below(self.pages + 1) }));
         self.say(format!("complete {}", complete as u64));
-        self.say(format!("failed {}", (!complete && random.one_in(2)) as u64));
+        self.say(format!("failed {}", (!complete && random.one_in(4)) as u64));
         for index in 0..8 {
             self.say(format!("rest {index}"));
         }
@@ -144,7 +167,7 @@ impl History {
     fn interrupt(&mut self, random: &mut Random) {
         if matches!(self.scenario.session.phase, Phase::Live | Phase::Blackout) {
             let index = random.below(self.scenario.session.created - 1);
-            let last = random.below(512);
+            let last = if random.one_in(2) { random.below(8) } else { random.below(512) };
             let next = random.below(last + 1);
             let (errors, data) = (random.below(next + 1), random.below(next + 1));
             self.say(format!("stream {index} {next} {last} {errors} {data}"));
@@ -157,6 +180,11 @@ impl History {
             0..=4 => (0..self.pages).collect(),
             pages => vec![0, 1, pages / 2, pages - 2, pages - 1],
         }
+    }
+
+    fn poke_one(&mut self, random: &mut Random) {
+        let page = random.pick(&self.some_pages());
+        self.poke(random, page);
     }
 
     fn poke(&mut self, random: &mut Random, page: u64) {
@@ -201,11 +229,10 @@ impl History {
 
     /// A call that the phase is for, mostly.
     fn fitting_call(&mut self, random: &mut Random) {
-        const GUEST: [&str; 9] = ["write", "write", "add", "accept", "accept", "block", "unblock", "remove", "track"];
         let fitting: &[&str] = match self.scenario.session.phase {
             Phase::Idle => &["start"],
-            Phase::Live => &["newepoch", "reset", "pause", "pause"],
-            Phase::Blackout => &["newepoch", "reset", "abort", "token", "token", "token"],
+            Phase::Live => &["newepoch", "dscan", "reset", "export", "pause", "pause"],
+            Phase::Blackout => &["newepoch", "dcheck", "reset", "export", "abort", "token", "token"],
             Phase::Done => &["new"],
         };
         let guest = matches!(self.scenario.session.phase, Phase::Idle | Phase::Live) && !random.one_in(6);
@@ -214,6 +241,11 @@ impl History {
             _ if guest => random.pick(&GUEST),
             _ => random.pick(fitting),
         };
+        self.call(random, word);
+    }
+
+    fn guest_call(&mut self, random: &mut Random) {
+        let word = random.pick(&GUEST);
         self.call(random, word);
     }
 
@@ -232,6 +264,7 @@ impl History {
             "new" => format!("new {}", if random.one_in(4) { random.pick(&BOUNDS) } else { 2 + random.below(8) }),
             "write" => format!("write {page} {}", random.uneven_word()),
             "add" | "accept" | "block" | "unblock" | "remove" => format!("{word} {page}"),
+            "dscan" | "dcheck" | "export" => return self.call_with_a_list(random, word),
             _ => word.to_owned(),
         });
     }
@@ -240,8 +273,7 @@ impl History {
 /// An interrupted stream with numbers next to their bounds, on either side.
 fn near_a_stream(random: &mut Random) -> String {
     let last = random.pick(&[0, 1, 5, 511, 512, u64::MAX]);
-    let mut near = |n: u64| n.saturating_add(random.below(3)).saturating_sub(1);
-    let next = near(last);
-    let (errors, data) = (near(next), near(next));
+    let next = random.near(last);
+    let (errors, data) = (random.near(next), random.near(next));
     format!("stream {} {next} {last} {errors} {data}", random.below(9))
 }

@@ -29,6 +29,11 @@ impl Random {
         from[self.below(from.len() as u64) as usize]
     }
 
+    /// A number that is at most one away from `n`.
+    pub fn near(&mut self, n: u64) -> u64 {
+        n.saturating_add(self.below(3)).saturating_sub(1)
+    }
+
     /// A word with few bits set, or few clear, or any.
     pub fn uneven_word(&mut self) -> u64 {
         match self.word() % 4 {

@@ -1,19 +1,53 @@
 //! What the program `scenario` prints: calls on a bench, typed line by line, with the host's hand on session and words between them.
 
+use crate::bench::export::{export, Operands};
 use crate::bench::memory::{accept, add, block, new, remove, track, unblock, write};
-use crate::bench::scans::reset;
+use crate::bench::scans::{dcheck, dscan, reset};
 use crate::bench::session::{Check, Phase, Session, Stream};
 use crate::bench::session_calls::{abort, new_epoch, pause, start, start_token};
-use crate::bench::{Answer, MOST_WORDS};
+use crate::bench::{Answer, MOST_ENTRIES, MOST_WORDS};
 
-/// The words that are kept: two more than a table may have, so that one too long can be lent.
-pub const SPACE: usize = MOST_WORDS + 2;
+/// Words that the host keeps: two more than a call may be lent, so that too many can be.
+pub struct Space {
+    pub words: Vec<u64>,
+    /// How many of them, from the first, are lent to a call.
+    pub lent: usize,
+}
+
+impl Space {
+    fn beyond(most: usize) -> Self {
+        Space { words: vec![0; most + 2], lent: 0 }
+    }
+
+    fn lend(&mut self, length: u64) {
+        self.lent = length.min(self.words.len() as u64) as usize;
+    }
+
+    fn put(&mut self, at: u64, word: u64) {
+        if at < self.words.len() as u64 {
+            self.words[at as usize] = word;
+        }
+    }
+
+    fn lent(&mut self) -> &mut [u64] {
+        &mut self.words[..self.lent]
+    }
+
+    /// The words from a to b-1.
+    fn show(&self, a: u64, b: u64) -> String {
+        let shown = a..b.min(self.words.len() as u64);
+        let words: Vec<String> = shown.map(|i| format!("{:016x}", self.words[i as usize])).collect();
+        words.join(" ")
+    }
+}
 
 pub struct Scenario {
     pub session: Session,
-    pub space: Vec<u64>,
-    /// How many words of the space are lent to a call.
-    pub lent: usize,
+    /// What the last call answered.
+    pub answer: Answer,
+    pub table: Space,
+    pub list: Space,
+    pub buffer: Space,
 }
 
 /// What a line prints for which there is no reading.
@@ -33,8 +67,10 @@ impl Default for Scenario {
                 check: Check::RESET,
                 streams: Session::STREAMS_AT_REST,
             },
-            space: vec![0; SPACE],
-            lent: 0,
+            answer: Answer::default(),
+            table: Space::beyond(MOST_WORDS),
+            list: Space::beyond(MOST_ENTRIES),
+            buffer: Space::beyond(MOST_ENTRIES),
         }
     }
 }
@@ -56,12 +92,18 @@ impl Scenario {
         if self.hand(word, numbers) {
             return None;
         }
-        if word == "show" {
-            return Some(self.show(numbers[0], numbers[1]));
-        }
-        Some(match self.call(word, numbers) {
-            Some(answer) => self.state_after(answer),
-            None => UNREADABLE.to_owned(),
+        let [a, b, ..] = numbers;
+        Some(match word {
+            "show" => self.table.show(a, b),
+            "listed" => self.list.show(a, b),
+            "sent" => self.buffer.show(a, b),
+            _ => match self.call(word, numbers) {
+                Some(answer) => {
+                    self.answer = answer;
+                    self.state()
+                }
+                None => UNREADABLE.to_owned(),
+            },
         })
     }
 
@@ -69,12 +111,12 @@ impl Scenario {
     fn hand(&mut self, word: &str, [a, b, c, d, e]: [u64; 5]) -> bool {
         let session = &mut self.session;
         match word {
-            "lend" => self.lent = a.min(SPACE as u64) as usize,
-            "word" => {
-                if a < SPACE as u64 {
-                    self.space[a as usize] = b;
-                }
-            }
+            "lend" => self.table.lend(a),
+            "list" => self.list.lend(a),
+            "buffer" => self.buffer.lend(a),
+            "word" => self.table.put(a, b),
+            "entry" => self.list.put(a, b),
+            "content" => self.buffer.put(a, b),
             "phase" => session.phase = PHASES[a.min(3) as usize],
             "pages" => session.pages = a,
             "tlb" => session.tlb = a,
@@ -98,8 +140,9 @@ impl Scenario {
         true
     }
 
-    fn call(&mut self, word: &str, [a, b, ..]: [u64; 5]) -> Option<Answer> {
-        let (session, table) = (&mut self.session, &mut self.space[..self.lent]);
+    fn call(&mut self, word: &str, [a, b, c, d, _]: [u64; 5]) -> Option<Answer> {
+        let (session, table) = (&mut self.session, self.table.lent());
+        let (list, buffer) = (self.list.lent(), self.buffer.lent());
         Some(match word {
             "new" => new(session, table, a),
             "write" => write(session, table, a, b),
@@ -113,19 +156,19 @@ impl Scenario {
             "pause" => pause(session, table),
             "abort" => abort(session, table),
             "newepoch" => new_epoch(session, table),
+            "dscan" => dscan(session, table, list, a, b, c),
+            "dcheck" => dcheck(session, table, list, a),
             "reset" => reset(session, table),
+            "export" => {
+                let operands = Operands { stream: a, resume: b != 0, info: c, budget: d };
+                export(session, table, list, buffer, operands)
+            }
             "token" => start_token(session, table),
             _ => return None,
         })
     }
 
-    /// The words from a to b-1.
-    fn show(&self, a: u64, b: u64) -> String {
-        let words: Vec<String> = (a..b.min(SPACE as u64)).map(|i| format!("{:016x}", self.space[i as usize])).collect();
-        words.join(" ")
-    }
-
-    fn state_after(&self, answer: Answer) -> String {
+    fn state(&self) -> String {
         let Session { phase, pages, tlb, epoch, created, check, streams } = self.session;
         let streams: Vec<String> = streams
             .iter()
@@ -134,21 +177,28 @@ impl Scenario {
                 Stream::Interrupted { next, last, errors, data } => format!("{next}/{last}/{errors}/{data}"),
             })
             .collect();
+        let Answer { code, page, next, first, last, info, errors, buffers } = self.answer;
+        let [table, list, buffer] = [&self.table, &self.list, &self.buffer].map(|space| digest(&space.words));
         [
-            format!("code {} page {}", answer.code, answer.page),
+            format!("code {code} page {page} next {next} first {first} last {last}"),
+            format!("info {info:016x} errors {errors} buffers {buffers}"),
             format!("phase {} pages {pages} tlb {tlb} epoch {epoch} created {created}", phase as u64),
             format!("place {} complete {} failed {}", check.place, check.complete as u64, check.failed as u64),
-            format!("streams {} table {}", streams.join(" "), digest(&self.space)),
+            format!("streams {} table {table} list {list} buffer {buffer}", streams.join(" ")),
         ]
         .join(" ")
     }
 }
 
-/// A decimal number of 64 bits, leading zeros or not.
-fn number(part: &str) -> Option<u64> {
-    part.bytes().try_fold(0u64, |n, byte| match byte {
-        b'0'..=b'9' => n.checked_mul(10)?.checked_add((byte - b'0') as u64),
-        _ => None,
+/// A number of 64 bits, leading zeros or not: decimal, or hexadecimal behind an x that follows zeros alone.
+pub fn number(part: &str) -> Option<u64> {
+    let (base, digits) = match part.split_once('x') {
+        Some((zeros, digits)) if !zeros.is_empty() && zeros.bytes().all(|zero| zero == b'0') => (16, digits),
+        _ => (10, part),
+    };
+    digits.chars().try_fold(0u64, |n, c| {
+        let digit = c.to_digit(base).filter(|_| !c.is_ascii_uppercase())?;
+        n.checked_mul(base as u64)?.checked_add(digit as u64)
     })
 }
 
@@ -170,14 +220,50 @@ mod tests {
 
     #[test]
     fn every_word_weighs_in_the_digest() {
-        let mut words = vec![0; SPACE];
-        words[SPACE - 1] = (1 << 32) + 1;
-        assert_eq!(digest(&words), 32);
-        words[SPACE - 2] = 1;
-        assert_eq!(digest(&words), 32 + 31 * 65_599);
-        // Both halves are 4 above the modulus.
-        words[SPACE - 2] = u64::MAX;
-        assert_eq!(digest(&words), 32 + 32 * 4 * 65_599);
+        for most in [MOST_WORDS, MOST_ENTRIES] {
+            let Space { mut words, .. } = Space::beyond(most);
+            words[most + 1] = (1 << 32) + 1;
+            assert_eq!(digest(&words), 32);
+            words[most] = 1;
+            assert_eq!(digest(&words), 32 + 31 * 65_599);
+            // Both halves are 4 above the modulus.
+            words[most] = u64::MAX;
+            assert_eq!(digest(&words), 32 + 32 * 4 * 65_599);
+        }
+    }
+
+    #[test]
+    fn each_space_has_a_digest_of_its_own() {
+        let mut scenario = Scenario::default();
+        for (hand, digests) in [
+            ("word 8193 1", "table 31 list 0 buffer 0"),
+            ("entry 513 2", "table 31 list 62 buffer 0"),
+            ("content 513 3", "table 31 list 62 buffer 93"),
+            ("entry 514 9", "table 31 list 62 buffer 93"),
+        ] {
+            assert_eq!(scenario.line(hand), None);
+            let line = scenario.line("reset").unwrap();
+            assert!(line.ends_with(&format!(" - {digests}")), "{hand}: {line}");
+        }
+    }
+
+    #[test]
+    fn a_number_is_decimal_or_hexadecimal() {
+        for (part, value) in [
+            ("0", 0),
+            ("0012", 12),
+            ("18446744073709551615", u64::MAX),
+            ("0x", 0),
+            ("0x1f", 31),
+            ("00x5", 5),
+            ("0x0000000000000000000a", 10),
+            ("0xffffffffffffffff", u64::MAX),
+        ] {
+            assert_eq!(number(part), Some(value), "{part}");
+        }
+        for part in "18446744073709551616 0x10000000000000000 x5 1x5 0x5x 0xx5 5a 0xA 0X5 0xg -1".split(' ') {
+            assert_eq!(number(part), None, "{part}");
+        }
     }
 
     #[test]
@@ -186,12 +272,12 @@ mod tests {
         for silent in ["", "  ", "# lend 4", "lend 4", "lend 2 3 4 5 6 7 ", "word  1  18446744073709551615 # all bits"] {
             assert_eq!(scenario.line(silent), None, "{silent}");
         }
-        assert_eq!(scenario.lent, 2);
+        assert_eq!(scenario.table.lent, 2);
         assert_eq!(scenario.line("show 0 3").unwrap(), "0000000000000000 ffffffffffffffff 0000000000000000");
         assert_eq!(scenario.line("show 5").unwrap(), "");
         for unreadable in ["word 0 18446744073709551616", "lend -1", "lend 1,2", "Lend 1", "lent 1", "7", "lend 8 x"] {
             assert_eq!(scenario.line(unreadable).unwrap(), UNREADABLE, "{unreadable}");
         }
-        assert_eq!(scenario.lent, 2);
+        assert_eq!(scenario.table.lent, 2);
     }
 }

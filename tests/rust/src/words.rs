@@ -25,6 +25,18 @@ pub struct Run {
     pub named: bool,
 }
 
+impl Run {
+    /// The number that the word has here.
+    pub fn of(&self, w: u64) -> u64 {
+        run(w, self.hi, self.lo)
+    }
+
+    /// The word with the low bits of `v` here.
+    pub fn with(&self, w: u64, v: u64) -> u64 {
+        with_run(w, self.hi, self.lo, v)
+    }
+}
+
 const fn field(name: &'static str, hi: u32, lo: u32) -> Run {
     Run { name, hi, lo, named: true }
 }

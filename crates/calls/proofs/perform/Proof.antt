@@ -1,8 +1,8 @@
 -- Each arm is its clause of the definition, by the contract of the call that it makes.
 use borrow.Author.Needs.{needs}
-use Rattle.migration.proofs.Laws.{new-epoch-table, reset-table}
-use Rattle.calls.specs.Calls.{plainly}
 use mathlib.Core.Path.{refl, sym, ap, _∙_}
+use Rattle.migration.proofs.Laws.{new-epoch-table, reset-table}
+use Rattle.calls.specs.Calls.{withoutNumbers, scanNumbers, exportNumbers}
 use Rattle.calls.proofs.perform.Statement.{statement}
 use Rattle.calls.proofs.perform.Tie as tie
 
@@ -12,8 +12,8 @@ enum-known-call c = search needs
 new-requires : tie.Need-new-requires
 new-requires c κs = search needs
 
-without-page-requires : tie.Need-without-page-requires
-without-page-requires c κs = search needs
+without-numbers-requires : tie.Need-without-numbers-requires
+without-numbers-requires c κs = search needs
 
 enum-known-call-2 : tie.Need-enum-known-call-2
 enum-known-call-2 c = search needs
@@ -21,8 +21,8 @@ enum-known-call-2 c = search needs
 write-requires : tie.Need-write-requires
 write-requires c κs = search needs
 
-without-page-requires-2 : tie.Need-without-page-requires-2
-without-page-requires-2 c κs = search needs
+without-numbers-requires-2 : tie.Need-without-numbers-requires-2
+without-numbers-requires-2 c κs = search needs
 
 enum-known-call-3 : tie.Need-enum-known-call-3
 enum-known-call-3 c = search needs
@@ -30,8 +30,8 @@ enum-known-call-3 c = search needs
 add-requires : tie.Need-add-requires
 add-requires c κs = search needs
 
-without-page-requires-3 : tie.Need-without-page-requires-3
-without-page-requires-3 c κs = search needs
+without-numbers-requires-3 : tie.Need-without-numbers-requires-3
+without-numbers-requires-3 c κs = search needs
 
 enum-known-call-4 : tie.Need-enum-known-call-4
 enum-known-call-4 c = search needs
@@ -39,8 +39,8 @@ enum-known-call-4 c = search needs
 accept-requires : tie.Need-accept-requires
 accept-requires c κs = search needs
 
-without-page-requires-4 : tie.Need-without-page-requires-4
-without-page-requires-4 c κs = search needs
+without-numbers-requires-4 : tie.Need-without-numbers-requires-4
+without-numbers-requires-4 c κs = search needs
 
 enum-known-call-5 : tie.Need-enum-known-call-5
 enum-known-call-5 c = search needs
@@ -48,8 +48,8 @@ enum-known-call-5 c = search needs
 block-requires : tie.Need-block-requires
 block-requires c κs = search needs
 
-without-page-requires-5 : tie.Need-without-page-requires-5
-without-page-requires-5 c κs = search needs
+without-numbers-requires-5 : tie.Need-without-numbers-requires-5
+without-numbers-requires-5 c κs = search needs
 
 enum-known-call-6 : tie.Need-enum-known-call-6
 enum-known-call-6 c = search needs
@@ -57,8 +57,8 @@ enum-known-call-6 c = search needs
 unblock-requires : tie.Need-unblock-requires
 unblock-requires c κs = search needs
 
-without-page-requires-6 : tie.Need-without-page-requires-6
-without-page-requires-6 c κs = search needs
+without-numbers-requires-6 : tie.Need-without-numbers-requires-6
+without-numbers-requires-6 c κs = search needs
 
 enum-known-call-7 : tie.Need-enum-known-call-7
 enum-known-call-7 c = search needs
@@ -66,8 +66,8 @@ enum-known-call-7 c = search needs
 remove-requires : tie.Need-remove-requires
 remove-requires c κs = search needs
 
-without-page-requires-7 : tie.Need-without-page-requires-7
-without-page-requires-7 c κs = search needs
+without-numbers-requires-7 : tie.Need-without-numbers-requires-7
+without-numbers-requires-7 c κs = search needs
 
 enum-told : tie.Need-enum-told
 enum-told c = search needs
@@ -75,8 +75,8 @@ enum-told c = search needs
 track-requires : tie.Need-track-requires
 track-requires c κs = search needs
 
-without-page-requires-8 : tie.Need-without-page-requires-8
-without-page-requires-8 c κs = search needs
+without-numbers-requires-8 : tie.Need-without-numbers-requires-8
+without-numbers-requires-8 c κs = search needs
 
 enum-told-2 : tie.Need-enum-told-2
 enum-told-2 c = search needs
@@ -84,8 +84,8 @@ enum-told-2 c = search needs
 start-requires : tie.Need-start-requires
 start-requires c κs = search needs
 
-without-page-requires-9 : tie.Need-without-page-requires-9
-without-page-requires-9 c κs = search needs
+without-numbers-requires-9 : tie.Need-without-numbers-requires-9
+without-numbers-requires-9 c κs = search needs
 
 enum-told-3 : tie.Need-enum-told-3
 enum-told-3 c = search needs
@@ -93,8 +93,8 @@ enum-told-3 c = search needs
 pause-requires : tie.Need-pause-requires
 pause-requires c κs = search needs
 
-without-page-requires-10 : tie.Need-without-page-requires-10
-without-page-requires-10 c κs = search needs
+without-numbers-requires-10 : tie.Need-without-numbers-requires-10
+without-numbers-requires-10 c κs = search needs
 
 enum-told-4 : tie.Need-enum-told-4
 enum-told-4 c = search needs
@@ -102,8 +102,8 @@ enum-told-4 c = search needs
 abort-requires : tie.Need-abort-requires
 abort-requires c κs = search needs
 
-without-page-requires-11 : tie.Need-without-page-requires-11
-without-page-requires-11 c κs = search needs
+without-numbers-requires-11 : tie.Need-without-numbers-requires-11
+without-numbers-requires-11 c κs = search needs
 
 enum-told-5 : tie.Need-enum-told-5
 enum-told-5 c = search needs
@@ -111,8 +111,8 @@ enum-told-5 c = search needs
 new-epoch-requires : tie.Need-new-epoch-requires
 new-epoch-requires c κs = search needs
 
-without-page-requires-12 : tie.Need-without-page-requires-12
-without-page-requires-12 c κs = search needs
+without-numbers-requires-12 : tie.Need-without-numbers-requires-12
+without-numbers-requires-12 c κs = search needs
 
 enum-told-6 : tie.Need-enum-told-6
 enum-told-6 c = search needs
@@ -120,14 +120,41 @@ enum-told-6 c = search needs
 reset-requires : tie.Need-reset-requires
 reset-requires c κs = search needs
 
-without-page-requires-13 : tie.Need-without-page-requires-13
-without-page-requires-13 c κs = search needs
+without-numbers-requires-13 : tie.Need-without-numbers-requires-13
+without-numbers-requires-13 c κs = search needs
 
 enum-told-7 : tie.Need-enum-told-7
 enum-told-7 c = search needs
 
 start-token-requires : tie.Need-start-token-requires
 start-token-requires c κs = search needs
+
+enum-known-call-8 : tie.Need-enum-known-call-8
+enum-known-call-8 c = search needs
+
+dscan-requires : tie.Need-dscan-requires
+dscan-requires c κs = search needs
+
+scan-numbers-requires : tie.Need-scan-numbers-requires
+scan-numbers-requires c κs = search needs
+
+enum-known-call-9 : tie.Need-enum-known-call-9
+enum-known-call-9 c = search needs
+
+dcheck-requires : tie.Need-dcheck-requires
+dcheck-requires c κs = search needs
+
+scan-numbers-requires-2 : tie.Need-scan-numbers-requires-2
+scan-numbers-requires-2 c κs = search needs
+
+enum-known-call-10 : tie.Need-enum-known-call-10
+enum-known-call-10 c = search needs
+
+export-requires : tie.Need-export-requires
+export-requires c κs = search needs
+
+export-numbers-requires : tie.Need-export-numbers-requires
+export-numbers-requires c κs = search needs
 
 same-length : tie.Need-same-length
 same-length c = search needs
@@ -136,7 +163,7 @@ returns : tie.Need-returns
 returns c =
     let at-new = c .before .before .before in
     let at-call = at-new .before .before .before in
-    rw (at-call .call .given .1) (c .without-page .ensures ∙ ap plainly (at-new .new .ensures .0), at-new .new .ensures .1)
+    rw (at-call .call .given .1) (c .without-numbers .ensures ∙ ap withoutNumbers (at-new .new .ensures .0), (at-new .new .ensures .1, (refl, refl)))
 
 same-length-2 : tie.Need-same-length-2
 same-length-2 c = search needs
@@ -145,7 +172,7 @@ returns-2 : tie.Need-returns-2
 returns-2 c =
     let at-write = c .before .before .before in
     let at-call2 = at-write .before .before .before in
-    rw (at-call2 .call2 .given .1) (c .without-page2 .ensures ∙ ap plainly (at-write .write .ensures .0), at-write .write .ensures .1)
+    rw (at-call2 .call2 .given .1) (c .without-numbers2 .ensures ∙ ap withoutNumbers (at-write .write .ensures .0), (at-write .write .ensures .1, (refl, refl)))
 
 same-length-3 : tie.Need-same-length-3
 same-length-3 c = search needs
@@ -154,7 +181,7 @@ returns-3 : tie.Need-returns-3
 returns-3 c =
     let at-add = c .before .before .before in
     let at-call3 = at-add .before .before .before in
-    rw (at-call3 .call3 .given .1) (c .without-page3 .ensures ∙ ap plainly (at-add .add .ensures .0), at-add .add .ensures .1)
+    rw (at-call3 .call3 .given .1) (c .without-numbers3 .ensures ∙ ap withoutNumbers (at-add .add .ensures .0), (at-add .add .ensures .1, (refl, refl)))
 
 same-length-4 : tie.Need-same-length-4
 same-length-4 c = search needs
@@ -163,7 +190,7 @@ returns-4 : tie.Need-returns-4
 returns-4 c =
     let at-accept = c .before .before .before in
     let at-call4 = at-accept .before .before .before in
-    rw (at-call4 .call4 .given .1) (c .without-page4 .ensures ∙ ap plainly (at-accept .accept .ensures .0), at-accept .accept .ensures .1)
+    rw (at-call4 .call4 .given .1) (c .without-numbers4 .ensures ∙ ap withoutNumbers (at-accept .accept .ensures .0), (at-accept .accept .ensures .1, (refl, refl)))
 
 same-length-5 : tie.Need-same-length-5
 same-length-5 c = search needs
@@ -172,7 +199,7 @@ returns-5 : tie.Need-returns-5
 returns-5 c =
     let at-block = c .before .before .before in
     let at-call5 = at-block .before .before .before in
-    rw (at-call5 .call5 .given .1) (c .without-page5 .ensures ∙ ap plainly (at-block .block .ensures .0), at-block .block .ensures .1)
+    rw (at-call5 .call5 .given .1) (c .without-numbers5 .ensures ∙ ap withoutNumbers (at-block .block .ensures .0), (at-block .block .ensures .1, (refl, refl)))
 
 same-length-6 : tie.Need-same-length-6
 same-length-6 c = search needs
@@ -181,7 +208,7 @@ returns-6 : tie.Need-returns-6
 returns-6 c =
     let at-unblock = c .before .before .before in
     let at-call6 = at-unblock .before .before .before in
-    rw (at-call6 .call6 .given .1) (c .without-page6 .ensures ∙ ap plainly (at-unblock .unblock .ensures .0), at-unblock .unblock .ensures .1)
+    rw (at-call6 .call6 .given .1) (c .without-numbers6 .ensures ∙ ap withoutNumbers (at-unblock .unblock .ensures .0), (at-unblock .unblock .ensures .1, (refl, refl)))
 
 same-length-7 : tie.Need-same-length-7
 same-length-7 c = search needs
@@ -190,7 +217,7 @@ returns-7 : tie.Need-returns-7
 returns-7 c =
     let at-remove = c .before .before .before in
     let at-call7 = at-remove .before .before .before in
-    rw (at-call7 .call7 .given .1) (c .without-page7 .ensures ∙ ap plainly (at-remove .remove .ensures .0), at-remove .remove .ensures .1)
+    rw (at-call7 .call7 .given .1) (c .without-numbers7 .ensures ∙ ap withoutNumbers (at-remove .remove .ensures .0), (at-remove .remove .ensures .1, (refl, refl)))
 
 same-length-8 : tie.Need-same-length-8
 same-length-8 c = search needs
@@ -199,7 +226,7 @@ returns-8 : tie.Need-returns-8
 returns-8 c =
     let at-track = c .before .before .before in
     let at-enum-told = at-track .before .before in
-    rw (at-enum-told .enum-told .given .1) (c .without-page8 .ensures ∙ ap plainly (at-track .track .ensures .0), at-track .track .ensures .1)
+    rw (at-enum-told .enum-told .given .1) (c .without-numbers8 .ensures ∙ ap withoutNumbers (at-track .track .ensures .0), (at-track .track .ensures .1, (refl, refl)))
 
 same-length-9 : tie.Need-same-length-9
 same-length-9 c = search needs
@@ -208,7 +235,7 @@ returns-9 : tie.Need-returns-9
 returns-9 c =
     let at-start = c .before .before .before in
     let at-enum-told2 = at-start .before .before in
-    rw (at-enum-told2 .enum-told2 .given .1) (c .without-page9 .ensures ∙ ap plainly (at-start .start .ensures .0), at-start .start .ensures .1)
+    rw (at-enum-told2 .enum-told2 .given .1) (c .without-numbers9 .ensures ∙ ap withoutNumbers (at-start .start .ensures .0), (at-start .start .ensures .1, (refl, refl)))
 
 same-length-10 : tie.Need-same-length-10
 same-length-10 c = search needs
@@ -217,7 +244,7 @@ returns-10 : tie.Need-returns-10
 returns-10 c =
     let at-pause = c .before .before .before in
     let at-enum-told3 = at-pause .before .before in
-    rw (at-enum-told3 .enum-told3 .given .1) (c .without-page10 .ensures ∙ ap plainly (at-pause .pause .ensures .0), at-pause .pause .ensures .1)
+    rw (at-enum-told3 .enum-told3 .given .1) (c .without-numbers10 .ensures ∙ ap withoutNumbers (at-pause .pause .ensures .0), (at-pause .pause .ensures .1, (refl, refl)))
 
 same-length-11 : tie.Need-same-length-11
 same-length-11 c = search needs
@@ -226,25 +253,64 @@ returns-11 : tie.Need-returns-11
 returns-11 c =
     let at-abort = c .before .before .before in
     let at-enum-told4 = at-abort .before .before in
-    rw (at-enum-told4 .enum-told4 .given .1) (c .without-page11 .ensures ∙ ap plainly (at-abort .abort .ensures .0), at-abort .abort .ensures .1)
+    rw (at-enum-told4 .enum-told4 .given .1) (c .without-numbers11 .ensures ∙ ap withoutNumbers (at-abort .abort .ensures .0), (at-abort .abort .ensures .1, (refl, refl)))
 
 same-length-12 : tie.Need-same-length-12
 same-length-12 c = search needs
 
 returns-12 : tie.Need-returns-12
-returns-12 c = rw (c .before .before .before .enum-told5 .given .1) (c .without-page12 .ensures ∙ ap plainly (c .before .new-epoch .ensures), sym (new-epoch-table _ _))
+returns-12 c = rw (c .before .before .before .enum-told5 .given .1) (c .without-numbers12 .ensures ∙ ap withoutNumbers (c .before .new-epoch .ensures), (sym (new-epoch-table _ _), (refl, refl)))
 
 same-length-13 : tie.Need-same-length-13
 same-length-13 c = search needs
 
 returns-13 : tie.Need-returns-13
-returns-13 c = rw (c .before .before .before .enum-told6 .given .1) (c .without-page13 .ensures ∙ ap plainly (c .before .reset .ensures), sym (reset-table _ _))
+returns-13 c = rw (c .before .before .before .enum-told6 .given .1) (c .without-numbers13 .ensures ∙ ap withoutNumbers (c .before .reset .ensures), (sym (reset-table _ _), (refl, refl)))
 
 same-length-14 : tie.Need-same-length-14
 same-length-14 c = search needs
 
 returns-14 : tie.Need-returns-14
-returns-14 c = rw (c .before .before .enum-told7 .given .1) (c .start-token .ensures, refl)
+returns-14 c = rw (c .before .before .enum-told7 .given .1) (c .start-token .ensures, (refl, (refl, refl)))
+
+same-length-15 : tie.Need-same-length-15
+same-length-15 c = search needs
+
+same-length-16 : tie.Need-same-length-16
+same-length-16 c = search needs
+
+returns-15 : tie.Need-returns-15
+returns-15 c =
+    let at-dscan = c .before .before .before .before .before in
+    let at-call8 = at-dscan .before .before .before .before in
+    rw (at-call8 .call8 .given .1) (c .scan-numbers .ensures ∙ ap scanNumbers (at-dscan .dscan .ensures .0), (at-dscan .dscan .ensures .1 .0, (at-dscan .dscan .ensures .1 .1, refl)))
+
+same-length-17 : tie.Need-same-length-17
+same-length-17 c = search needs
+
+same-length-18 : tie.Need-same-length-18
+same-length-18 c = search needs
+
+returns-16 : tie.Need-returns-16
+returns-16 c =
+    let at-dcheck = c .before .before .before .before .before in
+    let at-call9 = at-dcheck .before .before .before .before in
+    rw (at-call9 .call9 .given .1) (c .scan-numbers2 .ensures ∙ ap scanNumbers (at-dcheck .dcheck .ensures .0), (at-dcheck .dcheck .ensures .1 .0, (at-dcheck .dcheck .ensures .1 .1, refl)))
+
+same-length-19 : tie.Need-same-length-19
+same-length-19 c = search needs
+
+same-length-20 : tie.Need-same-length-20
+same-length-20 c = search needs
+
+same-length-21 : tie.Need-same-length-21
+same-length-21 c = search needs
+
+returns-17 : tie.Need-returns-17
+returns-17 c =
+    let at-export = c .before .before .before .before .before .before .before in
+    let at-call10 = at-export .before .before .before .before .before in
+    rw (at-call10 .call10 .given .1) (c .export-numbers .ensures ∙ ap exportNumbers (at-export .export .ensures .0), (at-export .export .ensures .1 .0, (at-export .export .ensures .1 .1 .0, at-export .export .ensures .1 .1 .1)))
 
 pub perform-spec : {M : Type 1} → statement M
 perform-spec =
@@ -252,45 +318,54 @@ perform-spec =
     (tie.spec
     enum-known-call
     new-requires
-    without-page-requires
+    without-numbers-requires
     enum-known-call-2
     write-requires
-    without-page-requires-2
+    without-numbers-requires-2
     enum-known-call-3
     add-requires
-    without-page-requires-3
+    without-numbers-requires-3
     enum-known-call-4
     accept-requires
-    without-page-requires-4
+    without-numbers-requires-4
     enum-known-call-5
     block-requires
-    without-page-requires-5
+    without-numbers-requires-5
     enum-known-call-6
     unblock-requires
-    without-page-requires-6
+    without-numbers-requires-6
     enum-known-call-7
     remove-requires
-    without-page-requires-7
+    without-numbers-requires-7
     enum-told
     track-requires
-    without-page-requires-8
+    without-numbers-requires-8
     enum-told-2
     start-requires
-    without-page-requires-9
+    without-numbers-requires-9
     enum-told-3
     pause-requires
-    without-page-requires-10
+    without-numbers-requires-10
     enum-told-4
     abort-requires
-    without-page-requires-11
+    without-numbers-requires-11
     enum-told-5
     new-epoch-requires
-    without-page-requires-12
+    without-numbers-requires-12
     enum-told-6
     reset-requires
-    without-page-requires-13
+    without-numbers-requires-13
     enum-told-7
     start-token-requires
+    enum-known-call-8
+    dscan-requires
+    scan-numbers-requires
+    enum-known-call-9
+    dcheck-requires
+    scan-numbers-requires-2
+    enum-known-call-10
+    export-requires
+    export-numbers-requires
     same-length
     returns
     same-length-2
@@ -318,4 +393,14 @@ perform-spec =
     same-length-13
     returns-13
     same-length-14
-    returns-14)
+    returns-14
+    same-length-15
+    same-length-16
+    returns-15
+    same-length-17
+    same-length-18
+    returns-16
+    same-length-19
+    same-length-20
+    same-length-21
+    returns-17)

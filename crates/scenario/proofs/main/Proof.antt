@@ -5,13 +5,19 @@ use Rattle.scenario.proofs.main.Statement.{statement}
 use Rattle.scenario.proofs.main.Tie as tie
 
 abbrev Inv-loop : tie.InvT-loop
-Inv-loop space₀ byte₀ lent₀ session₀ line₀ counter₀ space byte lent session line counter = counter ≤ 4294967296
+Inv-loop table₀ list₀ buffer₀ byte₀ lent₀ session₀ line₀ counter₀ table list buffer byte lent session line counter = counter ≤ 4294967296
 
 abbrev μ-loop : tie.MeasureT-loop
-μ-loop space₀ byte₀ lent₀ session₀ line₀ counter₀ space byte lent session line counter = 4294967296 - counter
+μ-loop table₀ list₀ buffer₀ byte₀ lent₀ session₀ line₀ counter₀ table list buffer byte lent session line counter = 4294967296 - counter
 
-slice-aggregate-space : tie.Need-slice-aggregate-space Inv-loop μ-loop
-slice-aggregate-space c = search needs
+slice-aggregate-table : tie.Need-slice-aggregate-table Inv-loop μ-loop
+slice-aggregate-table c = search needs
+
+slice-aggregate-list : tie.Need-slice-aggregate-list Inv-loop μ-loop
+slice-aggregate-list c = search needs
+
+slice-aggregate-buffer : tie.Need-slice-aggregate-buffer Inv-loop μ-loop
+slice-aggregate-buffer c = search needs
 
 slice-aggregate-byte : tie.Need-slice-aggregate-byte Inv-loop μ-loop
 slice-aggregate-byte c = search needs
@@ -64,7 +70,9 @@ main-spec =
     (tie.spec
     Inv-loop
     μ-loop
-    slice-aggregate-space
+    slice-aggregate-table
+    slice-aggregate-list
+    slice-aggregate-buffer
     slice-aggregate-byte
     zeros-requires
     empty-requires

@@ -1,6 +1,6 @@
 //! Word 0 of a page, taken apart.
 
-use crate::words::{plain, run, Run, RECORD};
+use crate::words::{plain, Run, RECORD};
 
 /// The states that the base uses. They stand as numbers, here and in the calls, as they do in document 01.
 pub const BASE: [u64; 12] = [0, 1, 2, 3, 4, 24, 25, 26, 27, 29, 30, 31];
@@ -20,13 +20,12 @@ impl Record {
     /// None for a strange record, which so is in no state.
     pub fn of(word: u64) -> Option<Record> {
         let [state, dirty, cached, _, stamp, epoch, _] = RECORD;
-        let field = |r: Run| run(word, r.hi, r.lo);
         let record = Record {
-            state: field(state),
-            dirty: field(dirty) == 1,
-            cached: field(cached) == 1,
-            stamp: field(stamp),
-            epoch: field(epoch),
+            state: state.of(word),
+            dirty: dirty.of(word) == 1,
+            cached: cached.of(word) == 1,
+            stamp: stamp.of(word),
+            epoch: epoch.of(word),
         };
         (plain(word) && BASE.contains(&record.state)).then_some(record)
     }

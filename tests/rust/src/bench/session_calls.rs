@@ -96,10 +96,10 @@ pub fn start_token(session: &mut Session, table: &mut [u64]) -> Answer {
         None => true,
     };
     if let Some(page) = records(table).position(dirty) {
-        return Answer { code: EXPORTED_DIRTY_PAGES_REMAIN, page: page as u64 };
+        return Answer { page: page as u64, ..Answer::plain(EXPORTED_DIRTY_PAGES_REMAIN) };
     }
     if let Some(page) = records(table).position(unexported) {
-        return Answer { code: UNEXPORTED_MEMORY_REMAINS, page: page as u64 };
+        return Answer { page: page as u64, ..Answer::plain(UNEXPORTED_MEMORY_REMAINS) };
     }
     session.phase = Phase::Done;
     Answer::plain(DONE)

@@ -28,8 +28,8 @@ mul-stream c = search needs
 element-copy-out-stream : tie.Need-element-copy-out-stream Inv-loop μ-loop
 element-copy-out-stream c = search needs
 
-add-may : tie.Need-add-may Inv-loop μ-loop
-add-may c = search needs
+is-usable-requires : tie.Need-is-usable-requires Inv-loop μ-loop
+is-usable-requires c κs = search needs
 
 is-so-requires : tie.Need-is-so-requires Inv-loop μ-loop
 is-so-requires c κs = search needs
@@ -42,9 +42,10 @@ loop-less c = search needs
 
 loop-again : tie.Need-loop-again Inv-loop μ-loop
 loop-again c =
-    let at-loop = c .before .before .before .before in
+    let at-is-usable = c .before .before in
+    let at-loop = at-is-usable .before .before .before in
     let at-comes-in = at-loop .before in
-    (omega arith, rw (add-one (at-loop .loop .i), at-loop .loop .inv .1, c .is-so .ensures, ap (λ (x : Comes). x .moving) (at-comes-in .comes-in .ensures)))
+    (omega arith, rw (add-one (at-loop .loop .i), at-loop .loop .inv .1, c .is-so .ensures, at-is-usable .is-usable .ensures, ap (λ (x : Comes). x .moving) (at-comes-in .comes-in .ensures)))
 
 returns : tie.Need-returns Inv-loop μ-loop
 returns c =
@@ -61,7 +62,7 @@ all-are-spec =
     loop-holds
     mul-stream
     element-copy-out-stream
-    add-may
+    is-usable-requires
     is-so-requires
     add-i
     loop-less

@@ -1,0 +1,19 @@
+-- Only the status is told.
+use borrow.Author.Needs.{needs}
+use Rattle.entry.specs.Entry.{failure}
+use Rattle.entry.proofs.fail.Statement.{statement}
+use Rattle.entry.proofs.fail.Tie as tie
+
+answer-word-requires : tie.Need-answer-word-requires
+answer-word-requires c κs = search needs
+
+returns : tie.Need-returns
+unfolding failure
+returns c = rw (c .answer-word .ensures)
+
+pub fail-spec : {M : Type 1} → statement M
+fail-spec =
+    tie.close
+    (tie.spec
+    answer-word-requires
+    returns)

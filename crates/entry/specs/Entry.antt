@@ -1,0 +1,74 @@
+-- One entry of a list that is exported.
+use mathlib.Core.Bool.{Bool, false, cond, not, _&&_, _||_}
+use mathlib.Core.List.{List, [], _∷_}
+use Prim.Native.Nat.{ℕ}
+use lib.Dec.{eqb, ltb, leb}
+use Rattle.words.specs.Entry.{entryOf, entryWord, withPending, withState, withL2Map, withOperation, withStatus}
+use Rattle.words.specs.Operations as operations
+use Rattle.words.specs.Statuses as statuses
+use Rattle.words.specs.declared.entries.Entry.{Entry}
+use Rattle.refusals.specs.Refusals.{Test, _gives_, firstOf}
+use Rattle.states.specs.Lists.{listingOf}
+use Rattle.states.specs.declared.State.{State}
+use Rattle.page.specs.Page.{tracked}
+use Rattle.page.specs.declared.Page.{Page}
+use Rattle.session.specs.Session.{among}
+use Rattle.session.specs.declared.Phase.the-variants.{Live}
+use Rattle.entry.specs.declared.Ground.{Ground}
+use Rattle.entry.specs.declared.Taken.{Taken}
+
+-- reserved bits, LEVEL or MIG_TYPE not 0, or OPERATION 2 or 3
+unfoldable pub invalid : Entry → Bool
+invalid e =
+    not (eqb (e .reserved5) 0 && eqb (e .reserved54) 0 && eqb (e .reserved61) 0 && eqb (e .level) 0 && eqb (e .«mig_type») 0 && ltb (e .operation) 2)
+
+-- strange, 0, 1, 3, or 24 or 29 without Dirty
+unfoldable pub unexportable : Page → Bool
+unexportable p = listingOf (p .state) .barred || (listingOf (p .state) .sent && not (p .dirty))
+
+-- 15, 1, 2, 4, 7; then, not for 26, 27, 31: 17, and in Live, for stamp 0 or ≥ TLB epoch, 5
+abbrev pub statusTests : Entry → Page → Ground → List Test
+statusTests e p g =
+    invalid e gives statuses.gpaListEntryInvalid
+    ∷ eqb (e .operation) operations.nop gives statuses.skipped
+    ∷ leb (g .pages) (e .gpa) gives statuses.septWalkFailed
+    ∷ unexportable p gives statuses.septEntryStateIncorrect
+    ∷ eqb (p .epoch) (g .epoch) gives statuses.migratedInCurrentEpoch
+    ∷ (not (listingOf (p .state) .cancelled) && p .dirty) gives statuses.pageDirty
+    ∷ (not (listingOf (p .state) .cancelled) && among (Live ∷ []) (g .phase) && not (tracked (p .stamp) (g .tlb))) gives statuses.tlbTrackingNotDone
+    ∷ []
+
+-- else status 0
+unfoldable pub statusOf : Entry → Page → Ground → ℕ
+statusOf e p g = firstOf (statusTests e p g)
+
+-- OPERATION, PENDING and STATUS as told; STATE and L2_MAP 0; the rest kept
+unfoldable pub answerWord : Entry → Bool → ℕ → ℕ → ℕ
+answerWord e pending operation status =
+    entryWord (withStatus (withOperation (withL2Map (withState (withPending e pending) 0) 0) operation) status)
+
+-- the migration epoch becomes current
+abbrev pub exportedPage : Page → State → ℕ → Page
+exportedPage p to epoch = record { state = to; dirty = p .dirty; cached = p .cached; stamp = p .stamp; epoch = epoch; mark = p .mark }
+
+-- OPERATION as done; PENDING 1 for successes from 2, 30, 31 (29 has no success); the buffer word is the mark for 4 and 25, else 0
+unfoldable pub success : Entry → Page → ℕ → Taken
+success e p epoch =
+    let row = listingOf (p .state) in
+    record {
+      status = statuses.success;
+      word = answerWord e (row .pending) (row .operation) statuses.success;
+      buffer = cond (row .contents) (p .mark) 0;
+      page = exportedPage p (row .export) epoch;
+      contents = row .contents;
+    }
+
+-- OPERATION and PENDING 0, buffer word 0, and the page as it was
+unfoldable pub failure : Entry → Page → ℕ → Taken
+failure e p status =
+    record { status = status; word = answerWord e false operations.nop status; buffer = 0; page = p; contents = false }
+
+unfoldable pub takenOf : ℕ → Page → Ground → Taken
+takenOf w p g =
+    let status = statusOf (entryOf w) p g in
+    cond (eqb status statuses.success) (success (entryOf w) p (g .epoch)) (failure (entryOf w) p status)

@@ -1,0 +1,93 @@
+-- What an export makes of the pages: an entry moves the page that it names and no other, and no strange one.
+use mathlib.Core.Path.{_≡_, refl, sym, ap, _∙_}
+use mathlib.Core.Bool.{Bool, true, false}
+use mathlib.Core.List.{List}
+use Prim.Native.Nat.{ℕ, zero, suc, _<_}
+use lib.Dec.{eqb, leb, ltb}
+use lib.ListN.{length}
+use borrow.Author.Tests.{eqb-true, eqb-false}
+use Rattle.words.specs.Codes as codes
+use Rattle.words.specs.Entry.{entryOf}
+use Rattle.words.specs.Info.{infoOf}
+use Rattle.words.specs.Record.{room}
+use Rattle.words.specs.declared.infos.Info.{Info}
+use Rattle.refusals.proofs.Laws.{either}
+use Rattle.page.specs.Page.{pageOf, strange}
+use Rattle.page.specs.declared.records.PageWords.{PageWords}
+use Rattle.table.specs.Table.{pageCount, wordsAt, pageAt, putAt}
+use Rattle.table.proofs.Laws.{put-same, put-other, put-back, page-put}
+use Rattle.session.specs.Session.{runOf}
+use Rattle.session.specs.declared.Session.{Session}
+use Rattle.entry.specs.declared.Ground.{Ground}
+use Rattle.entry.proofs.Laws.{strange-status, taken-status, taken-kept, taken-becomes}
+use Rattle.export.specs.Run.{Standing, standing, wordOf, placeOf, taking, wordsAfter, stepped, exportRun}
+use Rattle.export.specs.Export.{exportCode, groundOf, begunBy, finishedBy, ExportOutcome, refusedExport, ranExport, exportOut}
+use Rattle.export.specs.declared.runs.Progress.{Progress}
+use Rattle.export.specs.declared.ExportAnswer.{ExportAnswer}
+
+-- the page that the entry names
+pub step-page : (g : Ground) (s : Standing) → g .epoch < room → placeOf s < pageCount (s .table) → pageAt (stepped g s .table) (placeOf s) ≡ taking g s .page
+unfolding stepped wordsAfter
+step-page g s r h =
+    let k = placeOf s in
+    let w = wordsAt (s .table) k in
+    either (λ (v : PageWords). pageAt (putAt (s .table) k v) k ≡ taking g s .page) (eqb (taking g s .status) 0)
+    (λ q. page-put (s .table) k (taking g s .page) h (taken-becomes (wordOf s) (pageOf w) g r))
+    (λ q. ap pageOf (put-same (s .table) k w h) ∙ sym (taken-kept (wordOf s) (pageOf w) g q))
+
+pub step-other : (g : Ground) (s : Standing) (i : ℕ) → (i ≡ placeOf s → ⊥) → wordsAt (stepped g s .table) i ≡ wordsAt (s .table) i
+unfolding stepped
+step-other g s i ne = put-other (s .table) (placeOf s) i (wordsAfter (wordsAt (s .table) (placeOf s)) (taking g s)) ne
+
+-- an entry that names a strange page
+strange-kept : (g : Ground) (s : Standing) → strange (pageAt (s .table) (placeOf s)) ≡ true → wordsAt (stepped g s .table) (placeOf s) ≡ wordsAt (s .table) (placeOf s)
+unfolding stepped wordsAfter
+strange-kept g s e =
+    let p = pageAt (s .table) (placeOf s) in
+    let failed : eqb (taking g s .status) 0 ≡ false
+    = ap (λ (n : ℕ). eqb n 0) (taken-status (wordOf s) p g) ∙ strange-status (entryOf (wordOf s)) p g e in
+    rw failed (put-back (s .table) (placeOf s))
+
+step-strange : (g : Ground) (s : Standing) (i : ℕ) → strange (pageAt (s .table) i) ≡ true → wordsAt (stepped g s .table) i ≡ wordsAt (s .table) i
+step-strange g s i e = go (eqb i (placeOf s)) refl
+  where
+    go : (b : Bool) → eqb i (placeOf s) ≡ b → wordsAt (stepped g s .table) i ≡ wordsAt (s .table) i
+    go true q =
+        let same : i ≡ placeOf s = eqb-true _ _ q in
+        rw same (strange-kept g s (ap (λ (k : ℕ). strange (pageAt (s .table) k)) (sym same) ∙ e))
+    go false q = step-other g s i (eqb-false _ _ q)
+
+run-strange : (g : Ground) (last budget : ℕ) (s : Standing) (i : ℕ) → strange (pageAt (s .table) i) ≡ true → wordsAt (exportRun g last budget s .table) i ≡ wordsAt (s .table) i
+unfolding exportRun
+run-strange g last zero s i e = refl
+run-strange g last (suc budget) s i e =
+    let one : wordsAt (stepped g s .table) i ≡ wordsAt (s .table) i = step-strange g s i e in
+    either (λ (x : Standing). wordsAt (x .table) i ≡ wordsAt (s .table) i) (leb (s .at .next) last)
+    (λ q. run-strange g last budget (stepped g s) i (ap (λ (w : PageWords). strange (pageOf w)) one ∙ e) ∙ one)
+    (λ q. refl)
+
+-- ---- the whole call
+
+-- where its entries are left
+abbrev pub exported : Session → List ℕ → List ℕ → List ℕ → ℕ → ℕ → ℕ → Standing
+exported s t l b stream info budget =
+    exportRun (groundOf s) (infoOf info .last) budget (standing (begunBy (runOf s stream)) t l b)
+
+-- what holds of the outcome of a run and of the one that gives back what came holds of the export's
+pub export-either : (P : ExportOutcome → Type 0) (s : Session) (t l b : List ℕ) (stream : ℕ) (resume : Bool) (info budget : ℕ) → P (ranExport s stream (infoOf info) (exported s t l b stream info budget)) → P (refusedExport (exportCode s (length t) (length l) (length b) stream resume (infoOf info)) s t l b) → P (exportOut s t l b stream resume info budget)
+unfolding exportOut
+export-either P s t l b stream resume info budget ran kept =
+    let code = exportCode s (length t) (length l) (length b) stream resume (infoOf info) in
+    either P (eqb code 0) (λ e. ran) (λ e. kept)
+
+pub export-strange : (s : Session) (t l b : List ℕ) (stream : ℕ) (resume : Bool) (info budget i : ℕ) → strange (pageAt t i) ≡ true → wordsAt (exportOut s t l b stream resume info budget .table) i ≡ wordsAt t i
+export-strange s t l b stream resume info budget i e =
+    export-either (λ (o : ExportOutcome). wordsAt (o .table) i ≡ wordsAt t i) s t l b stream resume info budget
+    (run-strange (groundOf s) (infoOf info .last) budget (standing (begunBy (runOf s stream)) t l b) i e)
+    refl
+
+-- an export that ran answers 0 or 1
+pub finished-code : (f : ℕ → Bool) (s : Session) (stream : ℕ) (x : Info) (at : Progress) → f codes.done ≡ true → f codes.interrupted ≡ true → f (finishedBy s stream x at .code) ≡ true
+unfolding finishedBy
+finished-code f s stream x at done interrupted =
+    either (λ (e : ExportAnswer). f (e .code) ≡ true) (ltb (x .last) (at .next)) (λ q. done) (λ q. interrupted)

@@ -1,0 +1,15 @@
+-- The ground is the session's own numbers.
+use borrow.Author.Needs.{needs}
+use Rattle.export.specs.Export.{groundOf}
+use Rattle.export.proofs.ground_of.Statement.{statement}
+use Rattle.export.proofs.ground_of.Tie as tie
+
+returns : tie.Need-returns
+unfolding groundOf
+returns c = search needs
+
+pub ground-of-spec : {M : Type 1} → statement M
+ground-of-spec =
+    tie.close
+    (tie.spec
+    returns)

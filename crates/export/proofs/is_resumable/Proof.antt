@@ -1,0 +1,25 @@
+-- Each arm is a clause of the definition.
+use borrow.Author.Needs.{needs}
+use Rattle.export.proofs.is_resumable.Statement.{statement}
+use Rattle.export.proofs.is_resumable.Tie as tie
+
+enum-told : tie.Need-enum-told
+enum-told c = search needs
+
+enum-known-run : tie.Need-enum-known-run
+enum-known-run c = search needs
+
+returns : tie.Need-returns
+returns c = rw (c .enum-told .given .1)
+
+returns-2 : tie.Need-returns-2
+returns-2 c = rw (c .before .before .before .run .given .1)
+
+pub is-resumable-spec : {M : Type 1} → statement M
+is-resumable-spec =
+    tie.close
+    (tie.spec
+    enum-told
+    enum-known-run
+    returns
+    returns-2)

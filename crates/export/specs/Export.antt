@@ -1,0 +1,135 @@
+-- Export of a list.
+use mathlib.Core.Bool.{Bool, false, cond, not, _&&_}
+use mathlib.Core.List.{List, [], _∷_}
+use Prim.Native.Nat.{ℕ, _+_, _%_}
+use lib.Dec.{eqb, leb, ltb}
+use lib.ListN.{length}
+use Rattle.words.specs.Codes as codes
+use Rattle.words.specs.Info.{infoOf, infoWord, withFirst}
+use Rattle.words.specs.declared.infos.Info.{Info}
+use Rattle.refusals.specs.Refusals.{Test, _gives_}
+use Rattle.session.specs.Session.{moving, runOf, withRun}
+use Rattle.session.specs.Formed.{gated, within, usable, runResting, mostEntries}
+use Rattle.session.specs.declared.Session.{Session}
+use Rattle.session.specs.declared.streams.Run.{Run}
+use Rattle.session.specs.declared.streams.Run.the-variants.{AtRest, Interrupted}
+use Rattle.entry.specs.declared.Ground.{Ground}
+use Rattle.export.specs.Run.{Standing, standing, exportRun}
+use Rattle.export.specs.declared.runs.Progress.{Progress}
+use Rattle.export.specs.declared.ExportAnswer.{ExportAnswer}
+
+-- ---- the tests, each by its name
+
+abbrev pub badLength : ℕ → Bool
+badLength entries = not (within 1 mostEntries entries)
+
+abbrev pub otherBuffer : ℕ → ℕ → Bool
+otherBuffer entries room = not (eqb room entries)
+
+abbrev pub badFormat : Info → Bool
+badFormat x = not (eqb (x .format) 0)
+
+-- bits 54:52
+abbrev pub bitsSet : Info → Bool
+bitsSet x = not (eqb (x .zero52) 0)
+
+abbrev pub lastBeyond : ℕ → Info → Bool
+lastBeyond entries x = leb entries (x .last)
+
+-- interrupted, with this FIRST and LAST
+abbrev pub resumable : Run → Info → Bool
+resumable AtRest x = false
+resumable (Interrupted next last errors pages) x = eqb (x .first) next && eqb (x .last) last
+
+abbrev pub noResumption : Bool → Run → Info → Bool
+noResumption resume run x = resume && not (resumable run x)
+
+abbrev pub noNewCall : Bool → Run → Bool
+noNewCall resume run = not resume && not (runResting run)
+
+abbrev pub notFrom0 : Bool → Info → Bool
+notFrom0 resume x = not resume && not (eqb (x .first) 0)
+
+-- 42; 44; then 42
+abbrev pub exportTests : Session → ℕ → ℕ → ℕ → Bool → Info → List Test
+exportTests s entries room stream resume x =
+    not (usable s stream) gives codes.operandInvalid
+    ∷ badLength entries gives codes.operandInvalid
+    ∷ otherBuffer entries room gives codes.operandInvalid
+    ∷ badFormat x gives codes.operandInvalid
+    ∷ bitsSet x gives codes.operandInvalid
+    ∷ lastBeyond entries x gives codes.operandInvalid
+    ∷ noResumption resume (runOf s stream) x gives codes.invalidResumption
+    ∷ noNewCall resume (runOf s stream) gives codes.invalidResumption
+    ∷ notFrom0 resume x gives codes.operandInvalid
+    ∷ []
+
+unfoldable pub exportCode : Session → ℕ → ℕ → ℕ → ℕ → Bool → Info → ℕ
+exportCode s len entries room stream resume x = gated s len moving (exportTests s entries room stream resume x)
+
+-- ---- the call
+
+unfoldable pub groundOf : Session → Ground
+groundOf s = record { phase = s .phase; tlb = s .tlb; epoch = s .epoch; pages = s .pages }
+
+-- a new call begins at entry 0 with no counts; a resumed one goes on
+abbrev pub begunBy : Run → Progress
+begunBy AtRest = record { next = 0; errors = 0; pages = 0 }
+begunBy (Interrupted next last errors pages) = record { next = next; errors = errors; pages = pages }
+
+-- 1 for MACs, 2 if LAST ≥ 256
+unfoldable pub macPages : ℕ → ℕ
+macPages last = cond (leb 256 last) 2 1
+
+-- FIRST becomes the next index, at the end (LAST+1) mod 512
+unfoldable pub nextFirst : ℕ → ℕ → ℕ
+nextFirst last next = cond (ltb last next) ((last + 1) % mostEntries) next
+
+-- at the end: the errors of the whole operation, 1 buffer for the list, those for MACs and the data pages; the stream at rest
+abbrev pub doneBy : Session → ℕ → Info → Progress → ExportAnswer
+doneBy s stream x at =
+    record {
+      code = codes.done;
+      info = infoWord (withFirst x (nextFirst (x .last) (at .next)));
+      errors = at .errors;
+      buffers = 1 + macPages (x .last) + at .pages;
+      session = withRun s stream AtRest;
+    }
+
+-- before it: both counts 0; the stream interrupted
+abbrev pub interruptedBy : Session → ℕ → Info → Progress → ExportAnswer
+interruptedBy s stream x at =
+    record {
+      code = codes.interrupted;
+      info = infoWord (withFirst x (nextFirst (x .last) (at .next)));
+      errors = 0;
+      buffers = 0;
+      session = withRun s stream (Interrupted (at .next) (x .last) (at .errors) (at .pages));
+    }
+
+-- all done is tested before the budget
+unfoldable pub finishedBy : Session → ℕ → Info → Progress → ExportAnswer
+finishedBy s stream x at = cond (ltb (x .last) (at .next)) (doneBy s stream x at) (interruptedBy s stream x at)
+
+pub record ExportOutcome : Type 0 where
+  pub answer : ExportAnswer
+  pub table : List ℕ
+  pub list : List ℕ
+  pub buffer : List ℕ
+
+-- a refusal: the code, all other numbers 0, and everything as it came
+abbrev pub refusedExport : ℕ → Session → List ℕ → List ℕ → List ℕ → ExportOutcome
+refusedExport code s t l b =
+    record { answer = record { code = code; info = 0; errors = 0; buffers = 0; session = s }; table = t; list = l; buffer = b }
+
+abbrev pub ranExport : Session → ℕ → Info → Standing → ExportOutcome
+ranExport s stream x e =
+    record { answer = finishedBy s stream x (e .at); table = e .table; list = e .list; buffer = e .buffer }
+
+unfoldable pub exportOut : Session → List ℕ → List ℕ → List ℕ → ℕ → Bool → ℕ → ℕ → ExportOutcome
+exportOut s t l b stream resume info budget =
+    let x = infoOf info in
+    let code = exportCode s (length t) (length l) (length b) stream resume x in
+    cond (eqb code codes.done)
+    (ranExport s stream x (exportRun (groundOf s) (x .last) budget (standing (begunBy (runOf s stream)) t l b)))
+    (refusedExport code s t l b)

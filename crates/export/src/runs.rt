@@ -1,0 +1,113 @@
+// The entries of a list in turn.
+ghost use mathlib.Core.Path.{_≡_};
+ghost use Prim.Native.Nat.{_+_, _≤_, _<_};
+ghost use lib.ListN.{length};
+ghost use Rattle.words.specs.Runs.{bit};
+ghost use Rattle.session.specs.Formed.{lastEntry};
+ghost use Rattle.export.specs.Run.{standing, wordsAfter, counted, stepped, exportRun};
+use entry::Ground;
+use entry::Taken;
+use page::records;
+use page::records::PageWords;
+use words::entries;
+use words::statuses;
+
+// How far an operation has come, over all its calls.
+pub struct Progress {
+    pub next: u64,
+    pub errors: u64,
+    // Data pages.
+    pub pages: u64,
+}
+
+// The page's words after its entry: only a success writes them.
+fn words_after(w: PageWords, got: Taken) -> PageWords
+    ensures { λ r. ⌜ r ≡ wordsAfter w got ⌝ }
+{
+    let page = got.page;
+    if got.status == statuses::SUCCESS {
+        return records::write_back(w, page);
+    }
+    w
+}
+
+// A count, one more if the flag is set.
+fn count_if(n: u64, flag: bool) -> u64
+    requires { ⌜ n ≤ lastEntry ⌝ }
+    ensures { λ r. ⌜ r ≡ n + bit flag ⌝ }
+{
+    n + flag as u64
+}
+
+// One entry more; a skipped one is no error.
+fn count(at: Progress, got: Taken) -> Progress
+    requires { ⌜ (at .next ≤ lastEntry) × (at .errors ≤ at .next) × (at .pages ≤ at .next) ⌝ }
+    ensures { λ r. ⌜ r ≡ counted at got ⌝ }
+{
+    let status = got.status;
+    let error = (status != statuses::SUCCESS) & (status != statuses::SKIPPED);
+    let errors = count_if(at.errors, error);
+    let pages = count_if(at.pages, got.contents);
+    Progress {
+        next: at.next + 1,
+        errors,
+        pages,
+    }
+}
+
+// The next entry, with its page and its buffer's word.
+fn step(
+    table: &mut [u64],
+    list: &mut [u64],
+    buffer: &mut [u64],
+    at: Progress,
+    g: Ground,
+) -> Progress
+    requires { ⌜ (at .next < length (now list)) × (at .next < length (now buffer)) × (at .next ≤ lastEntry) × (at .errors ≤ at .next) × (at .pages ≤ at .next) ⌝ }
+    ensures { λ r. ⌜ r ≡ stepped g (standing at (now (table .entry)) (now (list .entry)) (now (buffer .entry))) .at ⌝ }
+    ensures { λ _. ⌜ now (table .exit) ≡ stepped g (standing at (now (table .entry)) (now (list .entry)) (now (buffer .entry))) .table ⌝ }
+    ensures { λ _. ⌜ now (list .exit) ≡ stepped g (standing at (now (table .entry)) (now (list .entry)) (now (buffer .entry))) .list ⌝ }
+    ensures { λ _. ⌜ now (buffer .exit) ≡ stepped g (standing at (now (table .entry)) (now (list .entry)) (now (buffer .entry))) .buffer ⌝ }
+{
+    let i = at.next as usize;
+    let w = list[i];
+    let e = entries::entry_of(w);
+    let k = e.gpa as usize;
+    let before = table::load(&table[..], k);
+    let page = records::page_of(before);
+    let got = entry::take_entry(w, page, g);
+    let after = words_after(before, got);
+    let next = count(at, got);
+    table::store(table, k, after);
+    list[i] = got.word;
+    buffer[i] = got.buffer;
+    next
+}
+
+// Entries in turn up to the last one, while the budget lasts.
+pub(crate) fn run_entries(
+    table: &mut [u64],
+    list: &mut [u64],
+    buffer: &mut [u64],
+    from: Progress,
+    last: u64,
+    budget: u64,
+    g: Ground,
+) -> Progress
+    requires { ⌜ (last < length (now list)) × (length (now buffer) ≡ length (now list)) × (last ≤ lastEntry) × (from .next ≤ last) × (from .errors ≤ from .next) × (from .pages ≤ from .next) ⌝ }
+    ensures { λ r. ⌜ r ≡ exportRun g last budget (standing from (now (table .entry)) (now (list .entry)) (now (buffer .entry))) .at ⌝ }
+    ensures { λ _. ⌜ now (table .exit) ≡ exportRun g last budget (standing from (now (table .entry)) (now (list .entry)) (now (buffer .entry))) .table ⌝ }
+    ensures { λ _. ⌜ now (list .exit) ≡ exportRun g last budget (standing from (now (table .entry)) (now (list .entry)) (now (buffer .entry))) .list ⌝ }
+    ensures { λ _. ⌜ now (buffer .exit) ≡ exportRun g last budget (standing from (now (table .entry)) (now (list .entry)) (now (buffer .entry))) .buffer ⌝ }
+{
+    let mut at = from;
+    let mut spent: u64 = 0;
+    while at.next <= last {
+        if budget <= spent {
+            return at;
+        }
+        at = step(table, list, buffer, at, g);
+        spent = spent + 1;
+    }
+    at
+}

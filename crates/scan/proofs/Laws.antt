@@ -1,0 +1,100 @@
+-- What the proofs of the scans cite: the turns of a run, and where a scan that is not refused lies in the table.
+use mathlib.Core.Path.{_≡_, refl, sym, ap}
+use mathlib.Core.Bool.{Bool, true, false, cond, _&&_}
+use mathlib.Core.List.{List, [], _∷_}
+use Prim.Native.Nat.{ℕ, suc, _+_, _-_, _*_, _/_, _≤_, _<_}
+use native.Mathlib.Omega.{arith}
+use lib.ListN.{length, set, length-take, length-drop}
+use lib.Dec.{leb}
+use borrow.Author.Tests.{le-leb, lt-leb, leb-true, leb-false, eq-eqb, ne-eqb}
+use Rattle.refusals.proofs.Laws.{passed, and-right, not-false}
+use Rattle.page.specs.declared.records.PageWords.{PageWords}
+use Rattle.table.specs.Table.{mostPages, wordsAt, putAt}
+use Rattle.session.specs.declared.Phase.the-variants.{Live, Blackout}
+use Rattle.session.specs.declared.Session.{Session}
+use Rattle.session.proofs.Laws.{gate-open}
+use Rattle.session.proofs.FormedLaws.{formed-means}
+use Rattle.scan.specs.Look.{lookOf}
+use Rattle.scan.specs.Scan.{stopTests, stopCode, endCode, ScanOut, stop, scanRun, partOf, withinTable, dscanTests, dscanCode, dcheckTests, dcheckCode}
+use Rattle.scan.specs.declared.looks.Look.{Look}
+use Rattle.scan.specs.declared.Scan.{Scan}
+
+-- ---- a turn of the run
+
+-- where the page is visited, the list has room for it
+pub stop-room : (scan : Scan) (f : Look) (i put room : ℕ) → stopCode scan f i put room ≡ 0 → f .listed ≡ true → put < room
+unfolding stopCode
+stop-room scan f i put room e h = leb-false room put (rw h at (passed (stopTests scan f i put room) refl e .1 .1 .0))
+
+-- a page that is left is one more than those left after it
+more : (n i : ℕ) → i < n → n - i ≡ suc (n - (i + 1))
+more n i h = omega arith
+
+module _ (n : ℕ) (scan : Scan) (i put : ℕ) (part list : List ℕ) (w : PageWords) (f : Look) (code : ℕ) (inside : i < n) (loaded : w ≡ wordsAt part i) (found : f ≡ lookOf w (scan .first + i) (scan .tlb)) (coded : code ≡ stopCode scan f i put (length list)) where
+  -- a code ends the run
+  pub scan-stops : (code ≡ 0 → ⊥) → scanRun (n - i) scan i put part list ≡ stop code (scan .first + i) put part list
+  unfolding scanRun
+  scan-stops e = rw (more n i inside, ← loaded, ← found, ← coded, ne-eqb _ _ e)
+
+  -- without one it goes on to the next page
+  pub scan-visits : code ≡ 0 → scanRun (n - i) scan i put part list ≡ scanRun (n - (i + 1)) scan (i + 1) (cond (f .listed) (put + 1) put) (cond (f .listed) (putAt part i (f .words)) part) (cond (f .listed) (set list put (f .word)) list)
+  unfolding scanRun
+  scan-visits e = rw (more n i inside, ← loaded, ← found, ← coded, eq-eqb _ _ e)
+
+-- past the last page
+pub scan-ends : (n : ℕ) (scan : Scan) (i put : ℕ) (part list : List ℕ) (code : ℕ) → n ≤ i → code ≡ endCode (scan .checking) → scanRun (n - i) scan i put part list ≡ stop code (scan .first + i) put part list
+unfolding scanRun
+scan-ends n scan i put part list code h e =
+    let none : n - i ≡ 0 = omega arith in
+    rw (none, e)
+
+-- what a run leaves, one by one
+pub parts : {o o′ : ScanOut} → o ≡ o′ → (o .scanned ≡ o′ .scanned) × ((o .part ≡ o′ .part) × (o .list ≡ o′ .list))
+parts e = (ap (λ (x : ScanOut). x .scanned) e, (ap (λ (x : ScanOut). x .part) e, ap (λ (x : ScanOut). x .list) e))
+
+-- ---- where a scan lies in the table
+
+-- a part of `count` pages has two words for each
+pub part-length : (t : List ℕ) (first count : ℕ) → 2 * first + 2 * count ≤ length t → length (partOf t first count) ≡ 2 * count
+part-length t first count h = simp (length-take, length-drop) (omega arith)
+
+pub part-pages : (t : List ℕ) (first count : ℕ) → 2 * first + 2 * count ≤ length t → length (partOf t first count) / 2 ≡ count
+part-pages t first count h = rw (part-length t first count h) (omega arith)
+
+-- the code's test, which no sum overflows, is the definition's
+pub leb-past : (first count pages : ℕ) → first ≤ pages → leb count (pages - first) ≡ leb (first + count) pages
+leb-past first count pages h = go (leb count (pages - first)) refl
+  where
+    go : (b : Bool) → leb count (pages - first) ≡ b → b ≡ leb (first + count) pages
+    go true e = let k : count ≤ pages - first = leb-true _ _ e in sym (le-leb (first + count) pages (omega arith))
+    go false e = let k : pages - first < count = leb-false _ _ e in sym (lt-leb (first + count) pages (omega arith))
+
+-- a test that fails, after any other
+pub and-false : (b : Bool) → (b && false) ≡ false
+and-false true = refl
+and-false false = refl
+
+-- `count` pages from `first` on are the table's, which is not too long: what `scan_range` requires
+abbrev pub Fits : ℕ → ℕ → ℕ → Type 0
+Fits len first count = (2 * first + 2 * count ≤ len) × (len ≤ 2 * mostPages)
+
+-- so are those of a DSCAN that is not refused
+pub dscan-fits : (s : Session) (len room first count : ℕ) → dscanCode s len room first count ≡ 0 → Fits len first count
+unfolding dscanCode withinTable
+dscan-fits s len room first count e =
+    let o = gate-open s len (Live ∷ []) (dscanTests s room first count) refl e in
+    let f = formed-means s len (o .formed) in
+    let w = not-false (withinTable first count (s .pages)) (o .passed .0) in
+    let inside : first + count ≤ s .pages = leb-true _ _ (and-right (leb 1 count) (leb (first + count) (s .pages)) w) in
+    let ours : len / 2 ≡ s .pages = f .ours in
+    (omega arith, f .most)
+
+-- and those from the session's place to the end, in a DCHECK that is not refused
+pub dcheck-fits : (s : Session) (len room : ℕ) → dcheckCode s len room ≡ 0 → (s .check .place ≤ s .pages) × Fits len (s .check .place) (s .pages - s .check .place)
+unfolding dcheckCode
+dcheck-fits s len room e =
+    let o = gate-open s len (Blackout ∷ []) (dcheckTests s room) refl e in
+    let f = formed-means s len (o .formed) in
+    let place : s .check .place ≤ s .pages = f .place in
+    let ours : len / 2 ≡ s .pages = f .ours in
+    (place, (omega arith, f .most))

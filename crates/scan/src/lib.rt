@@ -1,0 +1,295 @@
+// The scans: DSCAN looks for pages to export in a part of the table while the guest runs, DCHECK in the rest of it once the guest is paused.
+ghost use mathlib.Core.Path.{_≡_};
+ghost use mathlib.Core.Bool.{cond, true};
+ghost use Prim.Native.Nat.{_+_, _*_, _/_, _≤_, _<_};
+ghost use lib.ListN.{length, set};
+ghost use Rattle.table.specs.Table.{mostPages, putAt};
+ghost use Rattle.scan.specs.Scan.{stopCode, endCode, scanRun, rangeRun, answerOf, refusedAnswer, checkedBy};
+ghost use Rattle.scan.specs.Scan.{withinTable, dscanCode, dscanOut, dcheckCode, dcheckOut};
+use crate::looks::Look;
+use session::Check;
+use session::Session;
+use session::When;
+use session::streams;
+use words::codes;
+
+// What a scan makes of one page.
+pub mod looks;
+
+// What a scan goes by.
+pub struct Scan {
+    // The number of its first page.
+    pub first: usize,
+    pub budget: usize,
+    pub tlb: u64,
+    // It is a DCHECK, which a blocked page ends.
+    pub checking: bool,
+}
+
+// How a scan ended: the page that it stands at, and how many words it has written.
+pub struct Scanned {
+    pub code: u64,
+    pub next: usize,
+    pub put: usize,
+}
+
+// What a scan answers: the next page, and the first and the last entry of its list.
+pub struct ScanAnswer {
+    pub code: u64,
+    pub next: usize,
+    pub first: u64,
+    pub last: u64,
+    pub session: Session,
+}
+
+// ---- the run
+
+// Why a scan does not visit the page that it stands at, with `i` pages passed and `put` words written; 0 if it does.
+fn stop_code(scan: Scan, found: Look, i: usize, put: usize, room: usize) -> u64
+    ensures { λ r. ⌜ r ≡ stopCode scan found i put room ⌝ }
+{
+    let spent = scan.budget <= i;
+    let blocked = scan.checking & found.blocked;
+    let full = found.listed & (room <= put);
+    if spent {
+        return codes::INTERRUPTED;
+    }
+    if blocked {
+        return codes::MEM_SCAN_FAILED_BLOCKED_RANGE;
+    }
+    if full {
+        return codes::LIST_FULL;
+    }
+    codes::DONE
+}
+
+// The code past the last page.
+fn end_code(checking: bool) -> u64
+    ensures { λ r. ⌜ r ≡ endCode checking ⌝ }
+{
+    if checking {
+        codes::CHECK_COMPLETE
+    } else {
+        codes::DONE
+    }
+}
+
+// A page that is listed goes into the part, and its word into the list; how many words are then written.
+fn visit(part: &mut [u64], list: &mut [u64], i: usize, put: usize, found: Look) -> usize
+    requires { ⌜ (found .listed ≡ true → put < length (now list)) ⌝ }
+    ensures { λ r. ⌜ r ≡ cond (found .listed) (put + 1) put ⌝ }
+    ensures { λ _. ⌜ now (part .exit) ≡ cond (found .listed) (putAt (now (part .entry)) i (found .words)) (now (part .entry)) ⌝ }
+    ensures { λ _. ⌜ now (list .exit) ≡ cond (found .listed) (set (now (list .entry)) put (found .word)) (now (list .entry)) ⌝ }
+{
+    let listed = found.listed;
+    if listed {
+        let after = found.words;
+        table::store(part, i, after);
+        list[put] = found.word;
+        return put + 1;
+    }
+    put
+}
+
+// The pages of a part of the table in turn.
+fn scan_part(part: &mut [u64], list: &mut [u64], scan: Scan) -> Scanned
+    requires { ⌜ scan .first + length (now part) / 2 ≤ mostPages ⌝ }
+    ensures { λ r. ⌜ r ≡ scanRun (length (now (part .entry)) / 2) scan 0 0 (now (part .entry)) (now (list .entry)) .scanned ⌝ }
+    ensures { λ _. ⌜ now (part .exit) ≡ scanRun (length (now (part .entry)) / 2) scan 0 0 (now (part .entry)) (now (list .entry)) .part ⌝ }
+    ensures { λ _. ⌜ now (list .exit) ≡ scanRun (length (now (part .entry)) / 2) scan 0 0 (now (part .entry)) (now (list .entry)) .list ⌝ }
+{
+    let n = part.len() / 2;
+    let mut i: usize = 0;
+    let mut put: usize = 0;
+    while i < n {
+        let words = table::load(&part[..], i);
+        let found = looks::look_at(words, scan.first + i, scan.tlb);
+        let code = stop_code(scan, found, i, put, list.len());
+        if code != codes::DONE {
+            return Scanned {
+                code,
+                next: scan.first + i,
+                put,
+            };
+        }
+        put = visit(part, list, i, put, found);
+        i = i + 1;
+    }
+    let code = end_code(scan.checking);
+    Scanned {
+        code,
+        next: scan.first + i,
+        put,
+    }
+}
+
+// `count` pages of the table from the scan's first page on.
+fn scan_range(table: &mut [u64], list: &mut [u64], count: usize, scan: Scan) -> Scanned
+    requires { ⌜ (2 * scan .first + 2 * count ≤ length (now table)) × (length (now table) ≤ 2 * mostPages) ⌝ }
+    ensures { λ r. ⌜ r ≡ rangeRun count scan (now (table .entry)) (now (list .entry)) .scanned ⌝ }
+    ensures { λ _. ⌜ now (table .exit) ≡ rangeRun count scan (now (table .entry)) (now (list .entry)) .part ⌝ }
+    ensures { λ _. ⌜ now (list .exit) ≡ rangeRun count scan (now (table .entry)) (now (list .entry)) .list ⌝ }
+{
+    let from = 2 * scan.first;
+    let to = from + 2 * count;
+    scan_part(&mut table[from..to], list, scan)
+}
+
+// ---- the answer
+
+// First and last entry are 0 and count−1; 511 and 0 where a scan ran and listed nothing.
+fn answer(got: Scanned, session: Session) -> ScanAnswer
+    ensures { λ r. ⌜ r ≡ answerOf got session ⌝ }
+{
+    let put = got.put;
+    if put == 0 {
+        return ScanAnswer {
+            code: got.code,
+            next: got.next,
+            first: streams::LAST_ENTRY,
+            last: 0,
+            session,
+        };
+    }
+    ScanAnswer {
+        code: got.code,
+        next: got.next,
+        first: 0,
+        last: put as u64 - 1,
+        session,
+    }
+}
+
+fn refuse(code: u64, session: Session) -> ScanAnswer
+    ensures { λ r. ⌜ r ≡ refusedAnswer code session ⌝ }
+{
+    ScanAnswer {
+        code,
+        next: 0,
+        first: 0, // 511 is for a scan that ran
+        last: 0,
+        session,
+    }
+}
+
+// ---- DSCAN
+
+// One page or more, all of them the table's.
+fn is_within(first: usize, count: usize, pages: usize) -> bool
+    ensures { λ r. ⌜ r ≡ withinTable first count pages ⌝ }
+{
+    if pages < first {
+        return false;
+    }
+    (1 <= count) & (count <= pages - first)
+}
+
+fn dscan_code(s: Session, len: usize, room: usize, first: usize, count: usize) -> u64
+    ensures { λ r. ⌜ r ≡ dscanCode s len room first count ⌝ }
+{
+    let gate = session::gate(s, len, When::Live);
+    let within = is_within(first, count, s.pages);
+    let long = streams::MOST_ENTRIES < room;
+    if gate != codes::DONE {
+        return gate;
+    }
+    if !within {
+        return codes::OPERAND_INVALID;
+    }
+    if long {
+        return codes::OPERAND_INVALID;
+    }
+    codes::DONE
+}
+
+// Scans `count` pages from page `first` on, and leaves the session as it was.
+pub fn dscan(
+    s: Session,
+    table: &mut [u64],
+    list: &mut [u64],
+    first: usize,
+    count: usize,
+    budget: usize,
+) -> ScanAnswer
+    ensures { λ r. ⌜ r ≡ dscanOut s (now (table .entry)) (now (list .entry)) first count budget .answer ⌝ }
+    ensures { λ _. ⌜ now (table .exit) ≡ dscanOut s (now (table .entry)) (now (list .entry)) first count budget .table ⌝ }
+    ensures { λ _. ⌜ now (list .exit) ≡ dscanOut s (now (table .entry)) (now (list .entry)) first count budget .list ⌝ }
+{
+    let code = dscan_code(s, table.len(), list.len(), first, count);
+    if code != codes::DONE {
+        return refuse(code, s);
+    }
+    let got = scan_range(
+        table,
+        list,
+        count,
+        Scan {
+            first,
+            budget,
+            tlb: s.tlb,
+            checking: false,
+        },
+    );
+    answer(got, s)
+}
+
+// ---- DCHECK
+
+fn dcheck_code(s: Session, len: usize, room: usize) -> u64
+    ensures { λ r. ⌜ r ≡ dcheckCode s len room ⌝ }
+{
+    let gate = session::gate(s, len, When::Blackout);
+    let long = streams::MOST_ENTRIES < room;
+    let over = s.check.complete | s.check.failed;
+    if gate != codes::DONE {
+        return gate;
+    }
+    if long {
+        return codes::OPERAND_INVALID;
+    }
+    if over {
+        return codes::MEM_SCAN_RESET_REQUIRED;
+    }
+    codes::DONE
+}
+
+// The session with the check where the scan ended.
+fn check_at(s: Session, got: Scanned) -> Session
+    ensures { λ r. ⌜ r ≡ checkedBy s got ⌝ }
+{
+    let code = got.code;
+    session::with_check(
+        s,
+        Check {
+            place: got.next,
+            complete: code == codes::CHECK_COMPLETE,
+            failed: code == codes::MEM_SCAN_FAILED_BLOCKED_RANGE,
+        },
+    )
+}
+
+// Goes on from the session's place.
+pub fn dcheck(s: Session, table: &mut [u64], list: &mut [u64], budget: usize) -> ScanAnswer
+    ensures { λ r. ⌜ r ≡ dcheckOut s (now (table .entry)) (now (list .entry)) budget .answer ⌝ }
+    ensures { λ _. ⌜ now (table .exit) ≡ dcheckOut s (now (table .entry)) (now (list .entry)) budget .table ⌝ }
+    ensures { λ _. ⌜ now (list .exit) ≡ dcheckOut s (now (table .entry)) (now (list .entry)) budget .list ⌝ }
+{
+    let code = dcheck_code(s, table.len(), list.len());
+    if code != codes::DONE {
+        return refuse(code, s);
+    }
+    let place = s.check.place;
+    let got = scan_range(
+        table,
+        list,
+        s.pages - place,
+        Scan {
+            first: place,
+            budget,
+            tlb: s.tlb,
+            checking: true,
+        },
+    );
+    let session = check_at(s, got);
+    answer(got, session)
+}
