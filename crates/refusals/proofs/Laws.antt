@@ -2,7 +2,7 @@
 use mathlib.Core.Path.{_≡_, refl, sym}
 use mathlib.Core.Bool.{Bool, true, false, cond, not, _&&_, false≢true}
 use mathlib.Core.List.{List, [], _∷_}
-use Prim.Native.Nat.{ℕ, _<_}
+use Prim.Native.Nat.{ℕ, zero, suc, _<_}
 use native.Mathlib.Omega.{arith}
 use lib.Dec.{ltb, eqb}
 use borrow.Author.Tests.{ltb-true, eqb-false}
@@ -50,6 +50,22 @@ passed (t ∷ l) k e = go (t .holds) refl e (passed l (and-right (ltb 0 (t .code
 pub passed-code : (l : List Test) → Passed l → firstOf l ≡ 0
 passed-code [] p = refl
 passed-code (t ∷ l) p = rw (p .0) (passed-code l (p .1))
+
+-- the test with n others before it is the first that holds
+abbrev pub Reaches : List Test → ℕ → Type 0
+Reaches [] n = ⊥
+Reaches (t ∷ l) zero = t .holds ≡ true
+Reaches (t ∷ l) (suc n) = (t .holds ≡ false) × Reaches l n
+
+abbrev pub codeAt : List Test → ℕ → ℕ
+codeAt [] n = 0
+codeAt (t ∷ l) zero = t .code
+codeAt (t ∷ l) (suc n) = codeAt l n
+
+pub reached : (l : List Test) (n : ℕ) → Reaches l n → firstOf l ≡ codeAt l n
+reached [] n r = absurd r
+reached (t ∷ l) zero r = rw r
+reached (t ∷ l) (suc n) r = rw (r .0) (reached l n (r .1))
 
 -- what holds of every test's code
 abbrev pub allCodes : (ℕ → Bool) → List Test → Bool

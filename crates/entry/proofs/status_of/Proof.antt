@@ -1,11 +1,48 @@
--- Each way out is the definition at the tests that led there.
+-- The status is the first of the tests that were made; each way out is that at the tests which led there.
 use borrow.Author.Needs.{needs}
-use mathlib.Core.Path.{ap}
+use mathlib.Core.Path.{_≡_, sym, ap, _∙_}
+use mathlib.Core.Bool.{not, _&&_}
+use mathlib.Core.List.{List, [], _∷_}
+use lib.Dec.{eqb, leb}
+use Rattle.words.specs.Operations as operations
+use Rattle.words.specs.Statuses as statuses
+use Rattle.refusals.specs.Refusals.{Test, _gives_, firstOf}
+use Rattle.refusals.proofs.Laws.{reached, passed-code}
 use Rattle.states.specs.declared.lists.Listing.{Listing}
 use Rattle.session.specs.declared.Comes.{Comes}
 use Rattle.entry.specs.Entry.{statusOf}
 use Rattle.entry.proofs.status_of.Statement.{statement}
 use Rattle.entry.proofs.status_of.Tie as tie
+
+abbrev at-able : tie.After-struct-known7 → tie.After-is-unexportable
+at-able c = c .before .before .before .before
+
+abbrev at-invalid : tie.After-struct-known7 → tie.After-is-invalid
+at-invalid c = at-able c .before .before .before .before
+
+abbrev at-listing : tie.After-struct-known7 → tie.After-listing-of
+at-listing c = at-invalid c .before .before .before
+
+abbrev start : tie.After-struct-known7 → tie.Start
+start c = at-listing c .before
+
+-- the tests, as the code made them
+abbrev tests : tie.After-struct-known7 → List Test
+tests c =
+    at-invalid c .is-invalid .result gives statuses.gpaListEntryInvalid
+    ∷ eqb (start c .args .e .operation) operations.nop gives statuses.skipped
+    ∷ leb (start c .args .g .pages) (start c .args .e .gpa) gives statuses.septWalkFailed
+    ∷ at-able c .is-unexportable .result gives statuses.septEntryStateIncorrect
+    ∷ eqb (start c .args .p .epoch) (start c .args .g .epoch) gives statuses.migratedInCurrentEpoch
+    ∷ (not (at-listing c .listing-of .result .cancelled) && start c .args .p .dirty) gives statuses.pageDirty
+    ∷ (not (at-listing c .listing-of .result .cancelled) && at-invalid c .before .before .comes-in .result .live && not (at-invalid c .before .is-tracked .result)) gives statuses.tlbTrackingNotDone
+    ∷ []
+
+tested : (c : tie.After-struct-known7) → statusOf (start c .args .e) (start c .args .p) (start c .args .g) ≡ firstOf (tests c)
+unfolding statusOf
+tested c =
+    let invalid = at-invalid c in
+    rw (← invalid .is-invalid .ensures, ← at-able c .is-unexportable .ensures, ← invalid .before .is-tracked .ensures, ← ap (λ (x : Listing). x .cancelled) (at-listing c .listing-of .ensures), ← ap (λ (x : Comes). x .live) (invalid .before .before .comes-in .ensures))
 
 listing-of-requires : tie.Need-listing-of-requires
 listing-of-requires c κs = search needs
@@ -23,111 +60,28 @@ is-unexportable-requires : tie.Need-is-unexportable-requires
 is-unexportable-requires c κs = search needs
 
 returns : tie.Need-returns
-unfolding statusOf
-returns c =
-    let at-is-unexportable = c .before .before .before .before .before in
-    let at-is-invalid = at-is-unexportable .before .before .before .before in
-    let at-is-tracked = at-is-invalid .before in
-    let at-comes-in = at-is-tracked .before in
-    let at-listing-of = at-comes-in .before in
-    rw (← at-is-invalid .is-invalid .ensures, ← at-is-unexportable .is-unexportable .ensures, ← at-is-tracked .is-tracked .ensures, ← ap (λ (x : Listing). x .cancelled) (at-listing-of .listing-of .ensures), ← ap (λ (x : Comes). x .live) (at-comes-in .comes-in .ensures), c .if1 .taken)
+returns c = sym (tested (c .before) ∙ reached (tests (c .before)) 0 (c .if1 .taken))
 
 returns-2 : tie.Need-returns-2
-unfolding statusOf
-returns-2 c =
-    let at-if1 = c .before in
-    let at-is-unexportable = at-if1 .before .before .before .before .before in
-    let at-is-invalid = at-is-unexportable .before .before .before .before in
-    let at-is-tracked = at-is-invalid .before in
-    let at-comes-in = at-is-tracked .before in
-    let at-listing-of = at-comes-in .before in
-    rw (← at-is-invalid .is-invalid .ensures, ← at-is-unexportable .is-unexportable .ensures, ← at-is-tracked .is-tracked .ensures, ← ap (λ (x : Listing). x .cancelled) (at-listing-of .listing-of .ensures), ← ap (λ (x : Comes). x .live) (at-comes-in .comes-in .ensures), at-if1 .if1 .left, c .if2 .taken)
+returns-2 c = sym (tested (c .before .before) ∙ reached (tests (c .before .before)) 1 (c .before .if1 .left, c .if2 .taken))
 
 returns-3 : tie.Need-returns-3
-unfolding statusOf
-returns-3 c =
-    let at-if2 = c .before in
-    let at-if1 = at-if2 .before in
-    let at-is-unexportable = at-if1 .before .before .before .before .before in
-    let at-is-invalid = at-is-unexportable .before .before .before .before in
-    let at-is-tracked = at-is-invalid .before in
-    let at-comes-in = at-is-tracked .before in
-    let at-listing-of = at-comes-in .before in
-    rw (← at-is-invalid .is-invalid .ensures, ← at-is-unexportable .is-unexportable .ensures, ← at-is-tracked .is-tracked .ensures, ← ap (λ (x : Listing). x .cancelled) (at-listing-of .listing-of .ensures), ← ap (λ (x : Comes). x .live) (at-comes-in .comes-in .ensures), at-if1 .if1 .left, at-if2 .if2 .left, c .if3 .taken)
+returns-3 c = sym (tested (c .before .before .before) ∙ reached (tests (c .before .before .before)) 2 (c .before .before .if1 .left, (c .before .if2 .left, c .if3 .taken)))
 
 returns-4 : tie.Need-returns-4
-unfolding statusOf
-returns-4 c =
-    let at-if3 = c .before in
-    let at-if2 = at-if3 .before in
-    let at-if1 = at-if2 .before in
-    let at-is-unexportable = at-if1 .before .before .before .before .before in
-    let at-is-invalid = at-is-unexportable .before .before .before .before in
-    let at-is-tracked = at-is-invalid .before in
-    let at-comes-in = at-is-tracked .before in
-    let at-listing-of = at-comes-in .before in
-    rw (← at-is-invalid .is-invalid .ensures, ← at-is-unexportable .is-unexportable .ensures, ← at-is-tracked .is-tracked .ensures, ← ap (λ (x : Listing). x .cancelled) (at-listing-of .listing-of .ensures), ← ap (λ (x : Comes). x .live) (at-comes-in .comes-in .ensures), at-if1 .if1 .left, at-if2 .if2 .left, at-if3 .if3 .left, c .if4 .taken)
+returns-4 c = sym (tested (c .before .before .before .before) ∙ reached (tests (c .before .before .before .before)) 3 (c .before .before .before .if1 .left, (c .before .before .if2 .left, (c .before .if3 .left, c .if4 .taken))))
 
 returns-5 : tie.Need-returns-5
-unfolding statusOf
-returns-5 c =
-    let at-if4 = c .before in
-    let at-if3 = at-if4 .before in
-    let at-if2 = at-if3 .before in
-    let at-if1 = at-if2 .before in
-    let at-is-unexportable = at-if1 .before .before .before .before .before in
-    let at-is-invalid = at-is-unexportable .before .before .before .before in
-    let at-is-tracked = at-is-invalid .before in
-    let at-comes-in = at-is-tracked .before in
-    let at-listing-of = at-comes-in .before in
-    rw (← at-is-invalid .is-invalid .ensures, ← at-is-unexportable .is-unexportable .ensures, ← at-is-tracked .is-tracked .ensures, ← ap (λ (x : Listing). x .cancelled) (at-listing-of .listing-of .ensures), ← ap (λ (x : Comes). x .live) (at-comes-in .comes-in .ensures), at-if1 .if1 .left, at-if2 .if2 .left, at-if3 .if3 .left, at-if4 .if4 .left, c .if5 .taken)
+returns-5 c = sym (tested (c .before .before .before .before .before) ∙ reached (tests (c .before .before .before .before .before)) 4 (c .before .before .before .before .if1 .left, (c .before .before .before .if2 .left, (c .before .before .if3 .left, (c .before .if4 .left, c .if5 .taken)))))
 
 returns-6 : tie.Need-returns-6
-unfolding statusOf
-returns-6 c =
-    let at-if5 = c .before in
-    let at-if4 = at-if5 .before in
-    let at-if3 = at-if4 .before in
-    let at-if2 = at-if3 .before in
-    let at-if1 = at-if2 .before in
-    let at-is-unexportable = at-if1 .before .before .before .before .before in
-    let at-is-invalid = at-is-unexportable .before .before .before .before in
-    let at-is-tracked = at-is-invalid .before in
-    let at-comes-in = at-is-tracked .before in
-    let at-listing-of = at-comes-in .before in
-    rw (← at-is-invalid .is-invalid .ensures, ← at-is-unexportable .is-unexportable .ensures, ← at-is-tracked .is-tracked .ensures, ← ap (λ (x : Listing). x .cancelled) (at-listing-of .listing-of .ensures), ← ap (λ (x : Comes). x .live) (at-comes-in .comes-in .ensures), at-if1 .if1 .left, at-if2 .if2 .left, at-if3 .if3 .left, at-if4 .if4 .left, at-if5 .if5 .left, c .if6 .taken)
+returns-6 c = sym (tested (c .before .before .before .before .before .before) ∙ reached (tests (c .before .before .before .before .before .before)) 5 (c .before .before .before .before .before .if1 .left, (c .before .before .before .before .if2 .left, (c .before .before .before .if3 .left, (c .before .before .if4 .left, (c .before .if5 .left, c .if6 .taken))))))
 
 returns-7 : tie.Need-returns-7
-unfolding statusOf
-returns-7 c =
-    let at-if6 = c .before in
-    let at-if5 = at-if6 .before in
-    let at-if4 = at-if5 .before in
-    let at-if3 = at-if4 .before in
-    let at-if2 = at-if3 .before in
-    let at-if1 = at-if2 .before in
-    let at-is-unexportable = at-if1 .before .before .before .before .before in
-    let at-is-invalid = at-is-unexportable .before .before .before .before in
-    let at-is-tracked = at-is-invalid .before in
-    let at-comes-in = at-is-tracked .before in
-    let at-listing-of = at-comes-in .before in
-    rw (← at-is-invalid .is-invalid .ensures, ← at-is-unexportable .is-unexportable .ensures, ← at-is-tracked .is-tracked .ensures, ← ap (λ (x : Listing). x .cancelled) (at-listing-of .listing-of .ensures), ← ap (λ (x : Comes). x .live) (at-comes-in .comes-in .ensures), at-if1 .if1 .left, at-if2 .if2 .left, at-if3 .if3 .left, at-if4 .if4 .left, at-if5 .if5 .left, at-if6 .if6 .left, c .if7 .taken)
+returns-7 c = sym (tested (c .before .before .before .before .before .before .before) ∙ reached (tests (c .before .before .before .before .before .before .before)) 6 (c .before .before .before .before .before .before .if1 .left, (c .before .before .before .before .before .if2 .left, (c .before .before .before .before .if3 .left, (c .before .before .before .if4 .left, (c .before .before .if5 .left, (c .before .if6 .left, c .if7 .taken)))))))
 
 returns-8 : tie.Need-returns-8
-unfolding statusOf
-returns-8 c =
-    let at-if6 = c .before in
-    let at-if5 = at-if6 .before in
-    let at-if4 = at-if5 .before in
-    let at-if3 = at-if4 .before in
-    let at-if2 = at-if3 .before in
-    let at-if1 = at-if2 .before in
-    let at-is-unexportable = at-if1 .before .before .before .before .before in
-    let at-is-invalid = at-is-unexportable .before .before .before .before in
-    let at-is-tracked = at-is-invalid .before in
-    let at-comes-in = at-is-tracked .before in
-    let at-listing-of = at-comes-in .before in
-    rw (← at-is-invalid .is-invalid .ensures, ← at-is-unexportable .is-unexportable .ensures, ← at-is-tracked .is-tracked .ensures, ← ap (λ (x : Listing). x .cancelled) (at-listing-of .listing-of .ensures), ← ap (λ (x : Comes). x .live) (at-comes-in .comes-in .ensures), at-if1 .if1 .left, at-if2 .if2 .left, at-if3 .if3 .left, at-if4 .if4 .left, at-if5 .if5 .left, at-if6 .if6 .left, c .if7 .left)
+returns-8 c = sym (tested (c .before .before .before .before .before .before .before) ∙ passed-code (tests (c .before .before .before .before .before .before .before)) (c .before .before .before .before .before .before .if1 .left, (c .before .before .before .before .before .if2 .left, (c .before .before .before .before .if3 .left, (c .before .before .before .if4 .left, (c .before .before .if5 .left, (c .before .if6 .left, (c .if7 .left, tt))))))))
 
 pub status-of-spec : {M : Type 1} → statement M
 status-of-spec =

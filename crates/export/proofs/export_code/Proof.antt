@@ -1,10 +1,42 @@
--- Each way out is the definition at the tests that led there, the gate's first.
+-- Past the gate the code is the first of the tests that were made; each way out is that at the tests which led there.
 use borrow.Author.Needs.{needs}
+use mathlib.Core.Path.{_≡_, sym, _∙_}
+use mathlib.Core.Bool.{not, _&&_}
+use mathlib.Core.List.{List, [], _∷_}
 use borrow.Author.Tests.{eq-eqb, ne-eqb}
+use Rattle.words.specs.Codes as codes
+use Rattle.refusals.specs.Refusals.{Test, _gives_, firstOf}
+use Rattle.refusals.proofs.Laws.{reached, passed-code}
 use Rattle.session.proofs.Laws.{gate-first}
-use Rattle.export.specs.Export.{exportCode}
+use Rattle.export.specs.Export.{badLength, otherBuffer, badFormat, bitsSet, lastBeyond, notFrom0, exportCode}
 use Rattle.export.proofs.export_code.Statement.{statement}
 use Rattle.export.proofs.export_code.Tie as tie
+
+abbrev at-gate : tie.Else1 → tie.After-gate
+at-gate c = c .before .before .before .before .before
+
+abbrev start : tie.Else1 → tie.Start
+start c = at-gate c .before .before .before .before .before
+
+-- the tests, as the code made them
+abbrev tests : tie.Else1 → List Test
+tests c =
+    not (at-gate c .before .before .before .is-usable .result) gives codes.operandInvalid
+    ∷ badLength (start c .args .entries) gives codes.operandInvalid
+    ∷ otherBuffer (start c .args .entries) (start c .args .room) gives codes.operandInvalid
+    ∷ badFormat (start c .args .x) gives codes.operandInvalid
+    ∷ bitsSet (start c .args .x) gives codes.operandInvalid
+    ∷ lastBeyond (start c .args .entries) (start c .args .x) gives codes.operandInvalid
+    ∷ (start c .args .resume && not (at-gate c .before .before .is-resumable .result)) gives codes.invalidResumption
+    ∷ (not (start c .args .resume) && not (at-gate c .before .is-resting .result)) gives codes.invalidResumption
+    ∷ notFrom0 (start c .args .resume) (start c .args .x) gives codes.operandInvalid
+    ∷ []
+
+past-gate : (c : tie.Else1) → exportCode (start c .args .s) (start c .args .len) (start c .args .entries) (start c .args .room) (start c .args .stream) (start c .args .resume) (start c .args .x) ≡ firstOf (tests c)
+unfolding exportCode
+past-gate c =
+    let g = at-gate c in
+    rw (gate-first, ← g .gate .ensures, eq-eqb _ _ (c .if1 .left), ← g .before .before .before .is-usable .ensures, ← g .before .before .before .before .run-of .ensures, ← g .before .before .is-resumable .ensures, ← g .before .is-resting .ensures)
 
 run-of-requires : tie.Need-run-of-requires
 run-of-requires c κs = search needs
@@ -23,163 +55,37 @@ gate-requires c κs = search needs
 
 returns : tie.Need-returns
 unfolding exportCode
-returns c =
-    let at-gate = c .before .before .before .before .before in
-    rw (gate-first, ← at-gate .gate .ensures, ne-eqb _ _ (c .if1 .taken))
+returns c = rw (gate-first, ← c .before .before .before .before .before .gate .ensures, ne-eqb _ _ (c .if1 .taken))
 
 returns-2 : tie.Need-returns-2
-unfolding exportCode
-returns-2 c =
-    let at-if1 = c .before in
-    let at-gate = at-if1 .before .before .before .before .before in
-    let at-is-resting = at-gate .before in
-    let at-is-resumable = at-is-resting .before in
-    let at-is-usable = at-is-resumable .before in
-    let at-run-of = at-is-usable .before in
-    rw (gate-first, ← at-gate .gate .ensures, ← at-is-usable .is-usable .ensures, ← at-run-of .run-of .ensures, ← at-is-resumable .is-resumable .ensures, ← at-is-resting .is-resting .ensures, eq-eqb _ _ (at-if1 .if1 .left), c .if2 .taken)
+returns-2 c = sym (past-gate (c .before) ∙ reached (tests (c .before)) 0 (c .if2 .taken))
 
 returns-3 : tie.Need-returns-3
-unfolding exportCode
-returns-3 c =
-    let at-if2 = c .before in
-    let at-if1 = at-if2 .before in
-    let at-gate = at-if1 .before .before .before .before .before in
-    let at-is-resting = at-gate .before in
-    let at-is-resumable = at-is-resting .before in
-    let at-is-usable = at-is-resumable .before in
-    let at-run-of = at-is-usable .before in
-    rw (gate-first, ← at-gate .gate .ensures, ← at-is-usable .is-usable .ensures, ← at-run-of .run-of .ensures, ← at-is-resumable .is-resumable .ensures, ← at-is-resting .is-resting .ensures, eq-eqb _ _ (at-if1 .if1 .left), at-if2 .if2 .left, c .if3 .taken)
+returns-3 c = sym (past-gate (c .before .before) ∙ reached (tests (c .before .before)) 1 (c .before .if2 .left, c .if3 .taken))
 
 returns-4 : tie.Need-returns-4
-unfolding exportCode
-returns-4 c =
-    let at-if3 = c .before in
-    let at-if2 = at-if3 .before in
-    let at-if1 = at-if2 .before in
-    let at-gate = at-if1 .before .before .before .before .before in
-    let at-is-resting = at-gate .before in
-    let at-is-resumable = at-is-resting .before in
-    let at-is-usable = at-is-resumable .before in
-    let at-run-of = at-is-usable .before in
-    rw (gate-first, ← at-gate .gate .ensures, ← at-is-usable .is-usable .ensures, ← at-run-of .run-of .ensures, ← at-is-resumable .is-resumable .ensures, ← at-is-resting .is-resting .ensures, eq-eqb _ _ (at-if1 .if1 .left), at-if2 .if2 .left, at-if3 .if3 .left, c .if4 .taken)
+returns-4 c = sym (past-gate (c .before .before .before) ∙ reached (tests (c .before .before .before)) 2 (c .before .before .if2 .left, (c .before .if3 .left, c .if4 .taken)))
 
 returns-5 : tie.Need-returns-5
-unfolding exportCode
-returns-5 c =
-    let at-if4 = c .before in
-    let at-if3 = at-if4 .before in
-    let at-if2 = at-if3 .before in
-    let at-if1 = at-if2 .before in
-    let at-gate = at-if1 .before .before .before .before .before in
-    let at-is-resting = at-gate .before in
-    let at-is-resumable = at-is-resting .before in
-    let at-is-usable = at-is-resumable .before in
-    let at-run-of = at-is-usable .before in
-    rw (gate-first, ← at-gate .gate .ensures, ← at-is-usable .is-usable .ensures, ← at-run-of .run-of .ensures, ← at-is-resumable .is-resumable .ensures, ← at-is-resting .is-resting .ensures, eq-eqb _ _ (at-if1 .if1 .left), at-if2 .if2 .left, at-if3 .if3 .left, at-if4 .if4 .left, c .if5 .taken)
+returns-5 c = sym (past-gate (c .before .before .before .before) ∙ reached (tests (c .before .before .before .before)) 3 (c .before .before .before .if2 .left, (c .before .before .if3 .left, (c .before .if4 .left, c .if5 .taken))))
 
 returns-6 : tie.Need-returns-6
-unfolding exportCode
-returns-6 c =
-    let at-if5 = c .before in
-    let at-if4 = at-if5 .before in
-    let at-if3 = at-if4 .before in
-    let at-if2 = at-if3 .before in
-    let at-if1 = at-if2 .before in
-    let at-gate = at-if1 .before .before .before .before .before in
-    let at-is-resting = at-gate .before in
-    let at-is-resumable = at-is-resting .before in
-    let at-is-usable = at-is-resumable .before in
-    let at-run-of = at-is-usable .before in
-    rw (gate-first, ← at-gate .gate .ensures, ← at-is-usable .is-usable .ensures, ← at-run-of .run-of .ensures, ← at-is-resumable .is-resumable .ensures, ← at-is-resting .is-resting .ensures, eq-eqb _ _ (at-if1 .if1 .left), at-if2 .if2 .left, at-if3 .if3 .left, at-if4 .if4 .left, at-if5 .if5 .left, c .if6 .taken)
+returns-6 c = sym (past-gate (c .before .before .before .before .before) ∙ reached (tests (c .before .before .before .before .before)) 4 (c .before .before .before .before .if2 .left, (c .before .before .before .if3 .left, (c .before .before .if4 .left, (c .before .if5 .left, c .if6 .taken)))))
 
 returns-7 : tie.Need-returns-7
-unfolding exportCode
-returns-7 c =
-    let at-if6 = c .before in
-    let at-if5 = at-if6 .before in
-    let at-if4 = at-if5 .before in
-    let at-if3 = at-if4 .before in
-    let at-if2 = at-if3 .before in
-    let at-if1 = at-if2 .before in
-    let at-gate = at-if1 .before .before .before .before .before in
-    let at-is-resting = at-gate .before in
-    let at-is-resumable = at-is-resting .before in
-    let at-is-usable = at-is-resumable .before in
-    let at-run-of = at-is-usable .before in
-    rw (gate-first, ← at-gate .gate .ensures, ← at-is-usable .is-usable .ensures, ← at-run-of .run-of .ensures, ← at-is-resumable .is-resumable .ensures, ← at-is-resting .is-resting .ensures, eq-eqb _ _ (at-if1 .if1 .left), at-if2 .if2 .left, at-if3 .if3 .left, at-if4 .if4 .left, at-if5 .if5 .left, at-if6 .if6 .left, c .if7 .taken)
+returns-7 c = sym (past-gate (c .before .before .before .before .before .before) ∙ reached (tests (c .before .before .before .before .before .before)) 5 (c .before .before .before .before .before .if2 .left, (c .before .before .before .before .if3 .left, (c .before .before .before .if4 .left, (c .before .before .if5 .left, (c .before .if6 .left, c .if7 .taken))))))
 
 returns-8 : tie.Need-returns-8
-unfolding exportCode
-returns-8 c =
-    let at-if7 = c .before in
-    let at-if6 = at-if7 .before in
-    let at-if5 = at-if6 .before in
-    let at-if4 = at-if5 .before in
-    let at-if3 = at-if4 .before in
-    let at-if2 = at-if3 .before in
-    let at-if1 = at-if2 .before in
-    let at-gate = at-if1 .before .before .before .before .before in
-    let at-is-resting = at-gate .before in
-    let at-is-resumable = at-is-resting .before in
-    let at-is-usable = at-is-resumable .before in
-    let at-run-of = at-is-usable .before in
-    rw (gate-first, ← at-gate .gate .ensures, ← at-is-usable .is-usable .ensures, ← at-run-of .run-of .ensures, ← at-is-resumable .is-resumable .ensures, ← at-is-resting .is-resting .ensures, eq-eqb _ _ (at-if1 .if1 .left), at-if2 .if2 .left, at-if3 .if3 .left, at-if4 .if4 .left, at-if5 .if5 .left, at-if6 .if6 .left, at-if7 .if7 .left, c .if8 .taken)
+returns-8 c = sym (past-gate (c .before .before .before .before .before .before .before) ∙ reached (tests (c .before .before .before .before .before .before .before)) 6 (c .before .before .before .before .before .before .if2 .left, (c .before .before .before .before .before .if3 .left, (c .before .before .before .before .if4 .left, (c .before .before .before .if5 .left, (c .before .before .if6 .left, (c .before .if7 .left, c .if8 .taken)))))))
 
 returns-9 : tie.Need-returns-9
-unfolding exportCode
-returns-9 c =
-    let at-if8 = c .before in
-    let at-if7 = at-if8 .before in
-    let at-if6 = at-if7 .before in
-    let at-if5 = at-if6 .before in
-    let at-if4 = at-if5 .before in
-    let at-if3 = at-if4 .before in
-    let at-if2 = at-if3 .before in
-    let at-if1 = at-if2 .before in
-    let at-gate = at-if1 .before .before .before .before .before in
-    let at-is-resting = at-gate .before in
-    let at-is-resumable = at-is-resting .before in
-    let at-is-usable = at-is-resumable .before in
-    let at-run-of = at-is-usable .before in
-    rw (gate-first, ← at-gate .gate .ensures, ← at-is-usable .is-usable .ensures, ← at-run-of .run-of .ensures, ← at-is-resumable .is-resumable .ensures, ← at-is-resting .is-resting .ensures, eq-eqb _ _ (at-if1 .if1 .left), at-if2 .if2 .left, at-if3 .if3 .left, at-if4 .if4 .left, at-if5 .if5 .left, at-if6 .if6 .left, at-if7 .if7 .left, at-if8 .if8 .left, c .if9 .taken)
+returns-9 c = sym (past-gate (c .before .before .before .before .before .before .before .before) ∙ reached (tests (c .before .before .before .before .before .before .before .before)) 7 (c .before .before .before .before .before .before .before .if2 .left, (c .before .before .before .before .before .before .if3 .left, (c .before .before .before .before .before .if4 .left, (c .before .before .before .before .if5 .left, (c .before .before .before .if6 .left, (c .before .before .if7 .left, (c .before .if8 .left, c .if9 .taken))))))))
 
 returns-10 : tie.Need-returns-10
-unfolding exportCode
-returns-10 c =
-    let at-if9 = c .before in
-    let at-if8 = at-if9 .before in
-    let at-if7 = at-if8 .before in
-    let at-if6 = at-if7 .before in
-    let at-if5 = at-if6 .before in
-    let at-if4 = at-if5 .before in
-    let at-if3 = at-if4 .before in
-    let at-if2 = at-if3 .before in
-    let at-if1 = at-if2 .before in
-    let at-gate = at-if1 .before .before .before .before .before in
-    let at-is-resting = at-gate .before in
-    let at-is-resumable = at-is-resting .before in
-    let at-is-usable = at-is-resumable .before in
-    let at-run-of = at-is-usable .before in
-    rw (gate-first, ← at-gate .gate .ensures, ← at-is-usable .is-usable .ensures, ← at-run-of .run-of .ensures, ← at-is-resumable .is-resumable .ensures, ← at-is-resting .is-resting .ensures, eq-eqb _ _ (at-if1 .if1 .left), at-if2 .if2 .left, at-if3 .if3 .left, at-if4 .if4 .left, at-if5 .if5 .left, at-if6 .if6 .left, at-if7 .if7 .left, at-if8 .if8 .left, at-if9 .if9 .left, c .if10 .taken)
+returns-10 c = sym (past-gate (c .before .before .before .before .before .before .before .before .before) ∙ reached (tests (c .before .before .before .before .before .before .before .before .before)) 8 (c .before .before .before .before .before .before .before .before .if2 .left, (c .before .before .before .before .before .before .before .if3 .left, (c .before .before .before .before .before .before .if4 .left, (c .before .before .before .before .before .if5 .left, (c .before .before .before .before .if6 .left, (c .before .before .before .if7 .left, (c .before .before .if8 .left, (c .before .if9 .left, c .if10 .taken)))))))))
 
 returns-11 : tie.Need-returns-11
-unfolding exportCode
-returns-11 c =
-    let at-if9 = c .before in
-    let at-if8 = at-if9 .before in
-    let at-if7 = at-if8 .before in
-    let at-if6 = at-if7 .before in
-    let at-if5 = at-if6 .before in
-    let at-if4 = at-if5 .before in
-    let at-if3 = at-if4 .before in
-    let at-if2 = at-if3 .before in
-    let at-if1 = at-if2 .before in
-    let at-gate = at-if1 .before .before .before .before .before in
-    let at-is-resting = at-gate .before in
-    let at-is-resumable = at-is-resting .before in
-    let at-is-usable = at-is-resumable .before in
-    let at-run-of = at-is-usable .before in
-    rw (gate-first, ← at-gate .gate .ensures, ← at-is-usable .is-usable .ensures, ← at-run-of .run-of .ensures, ← at-is-resumable .is-resumable .ensures, ← at-is-resting .is-resting .ensures, eq-eqb _ _ (at-if1 .if1 .left), at-if2 .if2 .left, at-if3 .if3 .left, at-if4 .if4 .left, at-if5 .if5 .left, at-if6 .if6 .left, at-if7 .if7 .left, at-if8 .if8 .left, at-if9 .if9 .left, c .if10 .left)
+returns-11 c = sym (past-gate (c .before .before .before .before .before .before .before .before .before) ∙ passed-code (tests (c .before .before .before .before .before .before .before .before .before)) (c .before .before .before .before .before .before .before .before .if2 .left, (c .before .before .before .before .before .before .before .if3 .left, (c .before .before .before .before .before .before .if4 .left, (c .before .before .before .before .before .if5 .left, (c .before .before .before .before .if6 .left, (c .before .before .before .if7 .left, (c .before .before .if8 .left, (c .before .if9 .left, (c .if10 .left, tt))))))))))
 
 pub export-code-spec : {M : Type 1} → statement M
 export-code-spec =
