@@ -101,8 +101,8 @@ module _ (s : Session) (t l b : List ℕ) where
   code-named Start = all-named started (startCode s t) s (begun s phase.Live 1) t (gated-named s (length t) (phase.Idle ∷ []) _ refl)
   code-named Pause = all-named uncached (pauseCode s t) s (withPhase s phase.Blackout) t (gated-named s (length t) (phase.Live ∷ []) _ refl)
   code-named Abort = all-named aborted (abortCode s t) s (begun s phase.Idle 0) t (gated-named s (length t) moving [] refl)
-  code-named NewEpoch = answered-named (newEpochCode s t) s t (withEpoch s (s .epoch + 1)) t (gated-named s (length t) moving (newEpochTests s) refl)
-  code-named Reset = answered-named (resetCode s t) s t (withCheck s unchecked) t (gated-named s (length t) moving [] refl)
+  code-named NewEpoch = answered-named (newEpochCode s (length t)) s t (withEpoch s (s .epoch + 1)) t (gated-named s (length t) moving (newEpochTests s) refl)
+  code-named Reset = answered-named (resetCode s (length t)) s t (withCheck s unchecked) t (gated-named s (length t) moving [] refl)
   code-named StartToken = ap named (token-number (tokenCode s t) t) ∙ gated-named s (length t) (phase.Blackout ∷ []) (tokenTests s t) refl
   code-named (Dscan first count budget) =
       dscan-either s t l first count budget (λ (o : ScanOutcome). named (o .answer .code) ≡ true)

@@ -121,8 +121,8 @@ module _ (s : Session) (t l b : List ℕ) where
   keeps Start r = plain-kept (startOut s t) (all-keeps started (startCode s t) s (begun s phase.Live 1) t r)
   keeps Pause r = plain-kept (pauseOut s t) (all-keeps uncached (pauseCode s t) s (withPhase s phase.Blackout) t r)
   keeps Abort r = plain-kept (abortOut s t) (all-keeps aborted (abortCode s t) s (begun s phase.Idle 0) t r)
-  keeps NewEpoch r = plain-kept (newEpochOut s t) (answered-keeps (newEpochCode s t) s t (withEpoch s (s .epoch + 1)) t r)
-  keeps Reset r = plain-kept (resetOut s t) (answered-keeps (resetCode s t) s t (withCheck s unchecked) t r)
+  keeps NewEpoch r = plain-kept (newEpochOut s t) (answered-keeps (newEpochCode s (length t)) s t (withEpoch s (s .epoch + 1)) t r)
+  keeps Reset r = plain-kept (resetOut s t) (answered-keeps (resetCode s (length t)) s t (withCheck s unchecked) t r)
   keeps StartToken r = as-came (tokenNumber (tokenOut s t .token)) (tokenPage (tokenOut s t .token)) (tokenOut s t .session) t (token-keeps s t r) refl
   keeps (Dscan first count budget) r =
       dscan-either s t l first count budget (λ (o : ScanOutcome). refusal (o .answer .code) ≡ true → Kept s t l b (scanEffect o b))

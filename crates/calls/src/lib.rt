@@ -167,8 +167,8 @@ pub fn perform(
         Call::Start => without_numbers(migration::start(s, table)),
         Call::Pause => without_numbers(migration::pause(s, table)),
         Call::Abort => without_numbers(migration::abort(s, table)),
-        Call::NewEpoch => without_numbers(migration::new_epoch(s, &table[..])),
-        Call::Reset => without_numbers(migration::reset(s, &table[..])),
+        Call::NewEpoch => without_numbers(migration::new_epoch(s, table.len())),
+        Call::Reset => without_numbers(migration::reset(s, table.len())),
         Call::StartToken => start_token(s, &table[..]),
         Call::Dscan {
             first,

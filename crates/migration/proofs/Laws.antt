@@ -18,20 +18,20 @@ use Rattle.migration.specs.Migration.{newEpochTests, newEpochCode, newEp
 use Rattle.migration.specs.Token.{tokenNumber, tokenPage, inTheWay, tokenFor}
 use Rattle.migration.specs.declared.token.Token.the-variants.{Granted, Refused, InTheWay}
 
-pub epoch-room : (s : Session) (t : List ℕ) → newEpochCode s t ≡ 0 → s .epoch < lastEpoch
+pub epoch-room : (s : Session) (len : ℕ) → newEpochCode s len ≡ 0 → s .epoch < lastEpoch
 unfolding newEpochCode
-epoch-room s t e =
+epoch-room s len e =
     leb-false lastEpoch (s .epoch)
-    (gate-open s (length t) moving (newEpochTests s) refl e .passed .1 .0)
+    (gate-open s len moving (newEpochTests s) refl e .passed .1 .0)
 
 -- a new epoch and a reset leave the table
 pub new-epoch-table : (s : Session) (t : List ℕ) → newEpochOut s t .table ≡ t
 unfolding newEpochOut
-new-epoch-table s t = table-kept (newEpochCode s t) s (withEpoch s (s .epoch + 1)) t
+new-epoch-table s t = table-kept (newEpochCode s (length t)) s (withEpoch s (s .epoch + 1)) t
 
 pub reset-table : (s : Session) (t : List ℕ) → resetOut s t .table ≡ t
 unfolding resetOut
-reset-table s t = table-kept (resetCode s t) s (withCheck s unchecked) t
+reset-table s t = table-kept (resetCode s (length t)) s (withCheck s unchecked) t
 
 -- ---- the cases of the token
 

@@ -41,16 +41,16 @@ abortOut s t = answeredBy aborted (abortCode s t) s (begun s Idle 0) t
 abbrev pub newEpochTests : Session → List Test
 newEpochTests s = busy s gives codes.operandBusy ∷ leb lastEpoch (s .epoch) gives codes.migrationEpochOverflow ∷ []
 
-unfoldable pub newEpochCode : Session → List ℕ → ℕ
-newEpochCode s t = gated s (length t) moving (newEpochTests s)
+unfoldable pub newEpochCode : Session → ℕ → ℕ
+newEpochCode s len = gated s len moving (newEpochTests s)
 
 -- plus one
 unfoldable pub newEpochOut : Session → List ℕ → Outcome
-newEpochOut s t = answered (newEpochCode s t) s t (withEpoch s (s .epoch + 1)) t
+newEpochOut s t = answered (newEpochCode s (length t)) s t (withEpoch s (s .epoch + 1)) t
 
-unfoldable pub resetCode : Session → List ℕ → ℕ
-resetCode s t = gated s (length t) moving []
+unfoldable pub resetCode : Session → ℕ → ℕ
+resetCode s len = gated s len moving []
 
 -- page 0, neither complete nor failed
 unfoldable pub resetOut : Session → List ℕ → Outcome
-resetOut s t = answered (resetCode s t) s t (withCheck s unchecked) t
+resetOut s t = answered (resetCode s (length t)) s t (withCheck s unchecked) t

@@ -1,5 +1,8 @@
 // The session calls, and the scans' reset.
 ghost use mathlib.Core.Path.{_≡_};
+ghost use mathlib.Core.List.{List};
+ghost use Prim.Native.Nat.{ℕ};
+ghost use lib.ListN.{length};
 ghost use Rattle.migration.specs.Migration.{startCode, startOut, pauseCode, pauseOut, abortOut};
 ghost use Rattle.migration.specs.Migration.{newEpochCode, newEpochOut, resetOut};
 use page::queries::Sought;
@@ -70,10 +73,10 @@ pub fn abort(s: Session, table: &mut [u64]) -> Answer
     session::finish(code, s, next, table, Sweep::Abort)
 }
 
-fn new_epoch_code(s: Session, table: &[u64]) -> u64
-    ensures { λ r. ⌜ r ≡ newEpochCode s (now (table .entry)) ⌝ }
+fn new_epoch_code(s: Session, len: usize) -> u64
+    ensures { λ r. ⌜ r ≡ newEpochCode s len ⌝ }
 {
-    let gate = session::gate(s, table.len(), When::Moving);
+    let gate = session::gate(s, len, When::Moving);
     if gate != codes::DONE {
         return gate;
     }
@@ -88,10 +91,11 @@ fn new_epoch_code(s: Session, table: &[u64]) -> u64
     codes::DONE
 }
 
-pub fn new_epoch(s: Session, table: &[u64]) -> Answer
-    ensures { λ r. ⌜ r ≡ newEpochOut s (now (table .entry)) .answer ⌝ }
+// This and the reset ask of the table its length alone.
+pub fn new_epoch(s: Session, len: usize) -> Answer
+    ensures { λ r. ⌜ ((t : List ℕ) → length t ≡ len → r ≡ newEpochOut s t .answer) ⌝ }
 {
-    let code = new_epoch_code(s, table);
+    let code = new_epoch_code(s, len);
     if code != codes::DONE {
         return Answer { code, session: s };
     }
@@ -99,10 +103,10 @@ pub fn new_epoch(s: Session, table: &[u64]) -> Answer
     Answer { code, session }
 }
 
-pub fn reset(s: Session, table: &[u64]) -> Answer
-    ensures { λ r. ⌜ r ≡ resetOut s (now (table .entry)) .answer ⌝ }
+pub fn reset(s: Session, len: usize) -> Answer
+    ensures { λ r. ⌜ ((t : List ℕ) → length t ≡ len → r ≡ resetOut s t .answer) ⌝ }
 {
-    let code = session::gate(s, table.len(), When::Moving);
+    let code = session::gate(s, len, When::Moving);
     if code != codes::DONE {
         return Answer { code, session: s };
     }

@@ -255,29 +255,23 @@ returns-11 c =
     let at-enum-told4 = at-abort .before .before in
     rw (at-enum-told4 .enum-told4 .given .1) (c .without-numbers11 .ensures ∙ ap withoutNumbers (at-abort .abort .ensures .0), (at-abort .abort .ensures .1, (refl, refl)))
 
-same-length-12 : tie.Need-same-length-12
-same-length-12 c = search needs
-
 returns-12 : tie.Need-returns-12
-returns-12 c = rw (c .before .before .before .enum-told5 .given .1) (c .without-numbers12 .ensures ∙ ap withoutNumbers (c .before .new-epoch .ensures), (sym (new-epoch-table _ _), (refl, refl)))
-
-same-length-13 : tie.Need-same-length-13
-same-length-13 c = search needs
+returns-12 c = rw (c .before .before .enum-told5 .given .1) (c .without-numbers12 .ensures ∙ ap withoutNumbers (c .before .new-epoch .ensures _ refl), (sym (new-epoch-table _ _), (refl, refl)))
 
 returns-13 : tie.Need-returns-13
-returns-13 c = rw (c .before .before .before .enum-told6 .given .1) (c .without-numbers13 .ensures ∙ ap withoutNumbers (c .before .reset .ensures), (sym (reset-table _ _), (refl, refl)))
+returns-13 c = rw (c .before .before .enum-told6 .given .1) (c .without-numbers13 .ensures ∙ ap withoutNumbers (c .before .reset .ensures _ refl), (sym (reset-table _ _), (refl, refl)))
 
-same-length-14 : tie.Need-same-length-14
-same-length-14 c = search needs
+same-length-12 : tie.Need-same-length-12
+same-length-12 c = search needs
 
 returns-14 : tie.Need-returns-14
 returns-14 c = rw (c .before .before .enum-told7 .given .1) (c .start-token .ensures, (refl, (refl, refl)))
 
-same-length-15 : tie.Need-same-length-15
-same-length-15 c = search needs
+same-length-13 : tie.Need-same-length-13
+same-length-13 c = search needs
 
-same-length-16 : tie.Need-same-length-16
-same-length-16 c = search needs
+same-length-14 : tie.Need-same-length-14
+same-length-14 c = search needs
 
 returns-15 : tie.Need-returns-15
 returns-15 c =
@@ -285,11 +279,11 @@ returns-15 c =
     let at-call8 = at-dscan .before .before .before .before in
     rw (at-call8 .call8 .given .1) (c .scan-numbers .ensures ∙ ap scanNumbers (at-dscan .dscan .ensures .0), (at-dscan .dscan .ensures .1 .0, (at-dscan .dscan .ensures .1 .1, refl)))
 
-same-length-17 : tie.Need-same-length-17
-same-length-17 c = search needs
+same-length-15 : tie.Need-same-length-15
+same-length-15 c = search needs
 
-same-length-18 : tie.Need-same-length-18
-same-length-18 c = search needs
+same-length-16 : tie.Need-same-length-16
+same-length-16 c = search needs
 
 returns-16 : tie.Need-returns-16
 returns-16 c =
@@ -297,14 +291,14 @@ returns-16 c =
     let at-call9 = at-dcheck .before .before .before .before in
     rw (at-call9 .call9 .given .1) (c .scan-numbers2 .ensures ∙ ap scanNumbers (at-dcheck .dcheck .ensures .0), (at-dcheck .dcheck .ensures .1 .0, (at-dcheck .dcheck .ensures .1 .1, refl)))
 
+same-length-17 : tie.Need-same-length-17
+same-length-17 c = search needs
+
+same-length-18 : tie.Need-same-length-18
+same-length-18 c = search needs
+
 same-length-19 : tie.Need-same-length-19
 same-length-19 c = search needs
-
-same-length-20 : tie.Need-same-length-20
-same-length-20 c = search needs
-
-same-length-21 : tie.Need-same-length-21
-same-length-21 c = search needs
 
 returns-17 : tie.Need-returns-17
 returns-17 c =
@@ -388,19 +382,17 @@ perform-spec =
     returns-10
     same-length-11
     returns-11
-    same-length-12
     returns-12
-    same-length-13
     returns-13
-    same-length-14
+    same-length-12
     returns-14
+    same-length-13
+    same-length-14
+    returns-15
     same-length-15
     same-length-16
-    returns-15
+    returns-16
     same-length-17
     same-length-18
-    returns-16
     same-length-19
-    same-length-20
-    same-length-21
     returns-17)

@@ -14,7 +14,7 @@ new-epoch-code-requires c κs = search needs
 
 returns : tie.Need-returns
 unfolding newEpochOut answered
-returns c = rw (← c .before .new-epoch-code .ensures, ne-eqb _ _ (c .if1 .taken))
+returns c t e = rw (e, ← c .before .new-epoch-code .ensures, ne-eqb _ _ (c .if1 .taken))
 
 add-with-epoch : tie.Need-add-with-epoch
 add-with-epoch c = omega (arith, epoch-room _ _ (sym (c .before .before .new-epoch-code .ensures) ∙ c .before .if1 .left))
@@ -24,7 +24,7 @@ with-epoch-requires c κs = search needs
 
 returns-2 : tie.Need-returns-2
 unfolding newEpochOut answered
-returns-2 c = rw (← c .before .before .before .new-epoch-code .ensures, eq-eqb _ _ (c .before .before .if1 .left), ← c .with-epoch .ensures)
+returns-2 c t e = rw (e, ← c .before .before .before .new-epoch-code .ensures, eq-eqb _ _ (c .before .before .if1 .left), ← c .with-epoch .ensures)
 
 pub new-epoch-spec : {M : Type 1} → statement M
 new-epoch-spec =

@@ -11,14 +11,14 @@ gate-requires c κs = search needs
 
 returns : tie.Need-returns
 unfolding resetOut resetCode answered
-returns c = rw (← c .before .gate .ensures, ne-eqb _ _ (c .if1 .taken))
+returns c t e = rw (e, ← c .before .gate .ensures, ne-eqb _ _ (c .if1 .taken))
 
 reset-check-requires : tie.Need-reset-check-requires
 reset-check-requires c κs = search needs
 
 returns-2 : tie.Need-returns-2
 unfolding resetOut resetCode answered
-returns-2 c = rw (← c .before .before .gate .ensures, eq-eqb _ _ (c .before .if1 .left), ← c .reset-check .ensures)
+returns-2 c t e = rw (e, ← c .before .before .gate .ensures, eq-eqb _ _ (c .before .if1 .left), ← c .reset-check .ensures)
 
 pub reset-spec : {M : Type 1} → statement M
 reset-spec =

@@ -1,0 +1,4 @@
+pub mod LayoutLaws
+pub mod ListLaws
+pub mod PageLaws
+pub mod TablesLaws

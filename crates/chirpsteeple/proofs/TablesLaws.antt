@@ -1,0 +1,68 @@
+-- The calls that write no byte of the table: what each leaves is what the code puts there, since the engine's table is the one that came, and its bytes are those.
+use mathlib.Core.Path.{_≡_, refl, sym}
+use mathlib.Core.Bool.{Bool, true, false, cond}
+use mathlib.Core.List.{List}
+use Prim.Native.Nat.{ℕ, _%_}
+use lib.ListN.{length}
+use Rattle.session.specs.declared.Session.{Session}
+use Rattle.session.specs.declared.Answer.{Answer}
+use Rattle.migration.specs.Token.{tokenOut, tokenNumber, tokenPage}
+use Rattle.migration.specs.declared.token.TokenAnswer.{TokenAnswer}
+use Rattle.migration.proofs.Laws.{new-epoch-table, reset-table}
+use Rattle.calls.specs.Calls.{effect, effectOf}
+use Rattle.calls.specs.Promises.{refusal, isNew}
+use Rattle.calls.specs.declared.Call.the-variants.{StartToken}
+use Rattle.wire.specs.Bytes.{wordsOf, bytesOf, Bytes}
+use Rattle.wire.specs.Sessions.{sessionOf, sessionWords}
+use Rattle.wire.proofs.BytesLaws.{bytes-back}
+use Rattle.chirpsteeple.specs.Host.{lent, readable, played, hostOf, callAlone, aloneOut}
+use Rattle.chirpsteeple.specs.declared.tables.Alone.{Alone}
+use Rattle.chirpsteeple.specs.declared.tables.Alone.the-variants as alone
+use Rattle.chirpsteeple.proofs.LayoutLaws.{readable-means, table-kept, host-played}
+
+-- ---- new epoch and reset
+
+alone-effect : (k : Alone) (s : Session) (t l b : List ℕ) → effectOf (callAlone k) s t l b ≡ effect (aloneOut k s t) l b
+alone-effect alone.NewEpoch s t l b = refl
+alone-effect alone.Reset s t l b = refl
+
+alone-table : (k : Alone) (s : Session) (t : List ℕ) → aloneOut k s t .table ≡ t
+alone-table alone.NewEpoch s t = new-epoch-table s t
+alone-table alone.Reset s t = reset-table s t
+
+pub alone-reads : (k : Alone) → isNew (callAlone k) ≡ false
+alone-reads alone.NewEpoch = refl
+alone-reads alone.Reset = refl
+
+-- bytes that are the same either way
+either-kept : (b : Bool) {x y : List ℕ} → y ≡ x → x ≡ cond b x y
+either-kept true e = refl
+either-kept false e = sym e
+
+pub alone-left :
+    (k : Alone) (s t : List ℕ) (a : Answer) →
+    Bytes t →
+    readable s (length t) ≡ true →
+    a ≡ aloneOut k (sessionOf (wordsOf s)) (wordsOf t) .answer →
+    (a .code ≡ hostOf true (callAlone k) (lent s t) .answer .code)
+    × ((cond (refusal (a .code)) s (bytesOf (sessionWords (a .session))) ≡ hostOf true (callAlone k) (lent s t) .session)
+    × (t ≡ hostOf true (callAlone k) (lent s t) .table))
+unfolding played
+alone-left k s t a y e h =
+    rw (h, host-played true (callAlone k) (lent s t) (alone-reads k) e, alone-effect k, alone-table k)
+    (refl, (refl, either-kept (refusal (aloneOut k (sessionOf (wordsOf s)) (wordsOf t) .answer .code)) (table-kept t y (readable-means s (length t) e .table))))
+
+-- ---- the start token
+
+pub token-left :
+    (x : Session) (s t : List ℕ) (a : TokenAnswer) (code page : ℕ) →
+    Bytes t →
+    length t % 8 ≡ 0 →
+    a ≡ tokenOut x (wordsOf t) →
+    code ≡ tokenNumber (a .token) →
+    page ≡ tokenPage (a .token) →
+    (record { code = code; page = page; next = 0; first = 0; last = 0; info = 0; errors = 0; buffers = 0 } ≡ played true StartToken x (lent s t) .answer)
+    × ((cond (refusal code) s (bytesOf (sessionWords (a .session))) ≡ played true StartToken x (lent s t) .session)
+    × (t ≡ played true StartToken x (lent s t) .table))
+unfolding played
+token-left x s t a code page y e h n p = rw (n, p, h) (refl, (refl, either-kept (refusal (tokenNumber (tokenOut x (wordsOf t) .token))) (bytes-back t y e)))

@@ -1,0 +1,16 @@
+use borrow.Author.Needs.{needs}
+use Rattle.chirpsteeple.proofs.reads.is_table.Statement.{statement}
+use Rattle.chirpsteeple.proofs.reads.is_table.Tie as tie
+
+is-legal-requires : tie.Need-is-legal-requires
+is-legal-requires c κs = search needs
+
+returns : tie.Need-returns
+returns c = rw (← c .is-legal .ensures)
+
+pub is-table-spec : {M : Type 1} → statement M
+is-table-spec =
+    tie.close
+    (tie.spec
+    is-legal-requires
+    returns)

@@ -1,0 +1,197 @@
+// A call on lent bytes: read, made by the engine, and written back unless it refused.
+ghost use mathlib.Core.Path.{_≡_};
+ghost use mathlib.Core.Bool.{true, false, cond};
+ghost use Prim.Native.Nat.{_/_, _%_};
+ghost use lib.ListN.{length};
+ghost use Rattle.calls.specs.Calls.{effectOf};
+ghost use Rattle.calls.specs.Promises.{refusal, isNew};
+ghost use Rattle.wire.specs.Bytes.{wordsOf, bytesOf};
+ghost use Rattle.wire.specs.Sessions.{sessionWords};
+ghost use Rattle.chirpsteeple.specs.Host.{Lent, lent, Left, mostWords, sessionBytes, isTable, codeAlone, numbersOf, unless, played, hostOf};
+use crate::reads;
+use calls::Call;
+use calls::Returned;
+use session::Session;
+use wire::bytes;
+use wire::sessions;
+use words::codes;
+
+// The words of the largest table.
+pub const MOST_WORDS: usize = 2 * table::MOST_PAGES;
+
+// A call's answer in numbers; those that it does not give are 0.
+pub struct Numbers {
+    pub code: u64,
+    pub page: u64,
+    pub next: u64,
+    pub first: u64,
+    pub last: u64,
+    pub info: u64,
+    pub errors: u64,
+    pub buffers: u64,
+}
+
+pub fn code_alone(code: u64) -> Numbers
+    ensures { λ r. ⌜ r ≡ codeAlone code ⌝ }
+{
+    Numbers {
+        code,
+        page: 0,
+        next: 0,
+        first: 0,
+        last: 0,
+        info: 0,
+        errors: 0,
+        buffers: 0,
+    }
+}
+
+pub fn numbers_of(r: Returned) -> Numbers
+    ensures { λ n. ⌜ n ≡ numbersOf r ⌝ }
+{
+    Numbers {
+        code: r.code,
+        page: r.page as u64,
+        next: r.next as u64,
+        first: r.first,
+        last: r.last,
+        info: r.info,
+        errors: r.errors,
+        buffers: r.buffers,
+    }
+}
+
+// 51 is no refusal: it marks the check failed.
+pub fn is_refusal(code: u64) -> bool
+    ensures { λ r. ⌜ r ≡ refusal code ⌝ }
+{
+    ((40 <= code) & (code <= 50)) | ((52 <= code) & (code <= 56))
+}
+
+pub fn put_session(session: &mut [u8], s: Session)
+    requires { ⌜ length (now session) ≡ sessionBytes ⌝ }
+    ensures { λ _. ⌜ now (session .exit) ≡ bytesOf (sessionWords s) ⌝ }
+{
+    let words = sessions::words_of(s);
+    bytes::encode(&words, session);
+}
+
+// The session that a call made, unless it refused.
+pub fn put_unless(code: u64, session: &mut [u8], s: Session)
+    requires { ⌜ length (now session) ≡ sessionBytes ⌝ }
+    ensures { λ _. ⌜ now (session .exit) ≡ cond (refusal code) (now (session .entry)) (bytesOf (sessionWords s)) ⌝ }
+{
+    let refused = is_refusal(code);
+    if !refused {
+        put_session(session, s);
+    }
+}
+
+// The call on the table's words, for which `words` has room, and on those of the list and the buffer.
+pub fn play(
+    call: Call,
+    s: Session,
+    session: &mut [u8],
+    table: &mut [u8],
+    words: &mut [u64],
+    list: &mut [u64],
+    buffer: &mut [u64],
+) -> Returned
+    requires { ⌜ (length (now session) ≡ sessionBytes) × (length (now table) % 8 ≡ 0) × (length (now words) ≡ length (now table) / 8) ⌝ }
+    ensures { λ r. ⌜ r ≡ effectOf call s (wordsOf (now (table .entry))) (now (list .entry)) (now (buffer .entry)) .returned ⌝ }
+    ensures { λ r. ⌜ now (session .exit) ≡ unless r (now (session .entry)) (bytesOf (sessionWords (r .session))) ⌝ }
+    ensures { λ r. ⌜ now (table .exit) ≡ unless r (now (table .entry)) (bytesOf (effectOf call s (wordsOf (now (table .entry))) (now (list .entry)) (now (buffer .entry)) .table)) ⌝ }
+    ensures { λ _. ⌜ now (list .exit) ≡ effectOf call s (wordsOf (now (table .entry))) (now (list .entry)) (now (buffer .entry)) .list ⌝ }
+    ensures { λ _. ⌜ now (buffer .exit) ≡ effectOf call s (wordsOf (now (table .entry))) (now (list .entry)) (now (buffer .entry)) .buffer ⌝ }
+{
+    bytes::decode(&table[..], words);
+    let returned = calls::perform(call, s, words, list, buffer);
+    let code = returned.code;
+    if is_refusal(code) {
+        return returned;
+    }
+    let next = returned.session;
+    put_session(session, next);
+    bytes::encode(&words[..], table);
+    returned
+}
+
+// A call that takes no list, in room for any table.
+fn play_in(
+    call: Call,
+    s: Session,
+    session: &mut [u8],
+    table: &mut [u8],
+    room: &mut [u64],
+    list: &mut [u64],
+    buffer: &mut [u64],
+) -> u64
+    requires { ⌜ (length (now session) ≡ sessionBytes) × (isTable (length (now table)) ≡ true) × (length (now room) ≡ mostWords) ⌝ }
+    ensures { λ r. ⌜ r ≡ played true call s (lent (now (session .entry)) (now (table .entry))) .answer .code ⌝ }
+    ensures { λ _. ⌜ now (session .exit) ≡ played true call s (lent (now (session .entry)) (now (table .entry))) .session ⌝ }
+    ensures { λ _. ⌜ now (table .exit) ≡ played true call s (lent (now (session .entry)) (now (table .entry))) .table ⌝ }
+{
+    let n = table.len() / 8;
+    let returned = play(
+        call,
+        s,
+        session,
+        table,
+        &mut room[..n],
+        &mut list[..0],
+        &mut buffer[..0],
+    );
+    returned.code
+}
+
+fn play_table(call: Call, s: Session, session: &mut [u8], table: &mut [u8]) -> u64
+    requires { ⌜ (length (now session) ≡ sessionBytes) × (isTable (length (now table)) ≡ true) ⌝ }
+    ensures { λ r. ⌜ r ≡ played true call s (lent (now (session .entry)) (now (table .entry))) .answer .code ⌝ }
+    ensures { λ _. ⌜ now (session .exit) ≡ played true call s (lent (now (session .entry)) (now (table .entry))) .session ⌝ }
+    ensures { λ _. ⌜ now (table .exit) ≡ played true call s (lent (now (session .entry)) (now (table .entry))) .table ⌝ }
+{
+    let mut room = [0u64; MOST_WORDS];
+    let mut no_list = [0u64; 1];
+    let mut no_buffer = [0u64; 1];
+    play_in(
+        call,
+        s,
+        session,
+        table,
+        &mut room,
+        &mut no_list,
+        &mut no_buffer,
+    )
+}
+
+pub fn new(session: &mut [u8], table: &mut [u8], created: u64) -> u64
+    ensures { λ r. ⌜ r ≡ hostOf true (Call.New created) (lent (now (session .entry)) (now (table .entry))) .answer .code ⌝ }
+    ensures { λ _. ⌜ now (session .exit) ≡ hostOf true (Call.New created) (lent (now (session .entry)) (now (table .entry))) .session ⌝ }
+    ensures { λ _. ⌜ now (table .exit) ≡ hostOf true (Call.New created) (lent (now (session .entry)) (now (table .entry))) .table ⌝ }
+{
+    let blank = [0u64; sessions::SESSION_WORDS];
+    let whole = session.len() == reads::SESSION_BYTES;
+    let legal = reads::is_table(table.len());
+    if whole & legal {
+        let s = sessions::session_of(&blank);
+        return play_table(Call::New { created }, s, session, table);
+    }
+    codes::MALFORMED
+}
+
+// A call that takes no list, and reads its session.
+pub fn on_table(call: Call, session: &mut [u8], table: &mut [u8]) -> u64
+    requires { ⌜ isNew call ≡ false ⌝ }
+    ensures { λ r. ⌜ r ≡ hostOf true call (lent (now (session .entry)) (now (table .entry))) .answer .code ⌝ }
+    ensures { λ _. ⌜ now (session .exit) ≡ hostOf true call (lent (now (session .entry)) (now (table .entry))) .session ⌝ }
+    ensures { λ _. ⌜ now (table .exit) ≡ hostOf true call (lent (now (session .entry)) (now (table .entry))) .table ⌝ }
+{
+    let mut read = [0u64; sessions::SESSION_WORDS];
+    let words: &mut [u64] = &mut read;
+    let fits = reads::read(&session[..], table.len(), words);
+    if fits {
+        let s = sessions::session_of(&words[..]);
+        return play_table(call, s, session, table);
+    }
+    codes::MALFORMED
+}

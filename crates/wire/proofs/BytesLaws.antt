@@ -1,0 +1,155 @@
+-- Words and bytes: how many there are of each, what is read at each place, and that reading and writing undo each other. A word's bytes are eight in a row, so most laws go by recursion on the words, eight bytes a step.
+use mathlib.Core.Path.{_≡_, refl, sym, ap, _∙_}
+use mathlib.Core.Logic.{⊎-elim}
+use mathlib.Core.Bool.{Bool, true, false, cond}
+use mathlib.Core.List.{List, [], _∷_, _++_}
+use Prim.Native.Nat.{ℕ, zero, suc, _+_, _*_, _/_, _%_, _≤_, _<_}
+use native.Mathlib.Omega.{arith}
+use native.Mathlib.Numerals.{add-one}
+use native.Mathlib.Nat.{eq-or-lt-of-le, le-of-suc-le-suc, add-assoc, add-zero}
+use lib.Dec.{ltb}
+use lib.ListN.{length, getD, set, take, drop, replicate, length-append, length-drop, length-set, List·getD-append}
+use lib.Seq.{sets-eq, ext-getD, getD-at, getD-drop, take-suc, take-add, take-all}
+use borrow.Author.Tests.{ltb-true}
+use Rattle.page.specs.declared.records.PageWords.{PageWords}
+use Rattle.table.specs.Table.{putAt}
+use Rattle.wire.specs.Bytes.{halfAt, wordAt, halfBytes, wordBytes, putWord, upTo, wordsOf, bytesOf, Bytes, Words}
+use Rattle.wire.specs.Tables.{putPage}
+
+-- ---- lists by index
+
+up-length : (f : ℕ → ℕ) (n : ℕ) → length (upTo f n) ≡ n
+up-length f zero = refl
+up-length f (suc n) = simp (length-append, up-length f n) (add-one n)
+
+up-at : (f : ℕ → ℕ) (n i : ℕ) → i < n → getD (upTo f n) i 0 ≡ f i
+up-at f zero i h = absurd (omega arith)
+up-at f (suc n) i h =
+    ⊎-elim
+    (λ e. rw e (getD-at (upTo f n) (f n) [] 0 n (up-length f n)))
+    (λ l. List·getD-append (upTo f n) (f n ∷ []) 0 i (rw (up-length f n) l) ∙ up-at f n i l)
+    (eq-or-lt-of-le (le-of-suc-le-suc h))
+
+pub words-length : (b : List ℕ) → length (wordsOf b) ≡ length b / 8
+unfolding wordsOf
+words-length b = up-length (λ i. wordAt b (8 * i)) (length b / 8)
+
+pub words-at : (b : List ℕ) (i : ℕ) → i < length b / 8 → getD (wordsOf b) i 0 ≡ wordAt b (8 * i)
+unfolding wordsOf
+words-at b i h = up-at (λ j. wordAt b (8 * j)) (length b / 8) i h
+
+pub bytes-length : (w : List ℕ) → length (bytesOf w) ≡ 8 * length w
+bytes-length [] = refl
+bytes-length (x ∷ l) = omega (arith, bytes-length l)
+
+pub bytes-append : (v w : List ℕ) → bytesOf (v ++ w) ≡ bytesOf v ++ bytesOf w
+bytes-append [] w = refl
+bytes-append (x ∷ v) w = ap (λ (r : List ℕ). wordBytes x ++ r) (bytes-append v w)
+
+-- a word that is put, as a cut and a paste
+pub put-word : (b : List ℕ) (at x : ℕ) → at + 8 ≤ length b → putWord b at x ≡ take at b ++ wordBytes x ++ drop (at + 8) b
+unfolding putWord
+put-word b at x h = sets-eq (wordBytes x) b at h
+
+-- ---- reading what was written
+
+-- where a word stands behind n bytes
+word-drop : (n : ℕ) (b : List ℕ) (k : ℕ) → wordAt (drop n b) k ≡ wordAt b (n + k)
+unfolding wordAt
+word-drop n b k = simp (getD-drop, add-assoc)
+
+half-digits : (x : ℕ) → x < 0x100000000 → x % 256 + x / 256 % 256 * 0x100 + x / 256 / 256 % 256 * 0x10000 + x / 256 / 256 / 256 % 256 * 0x1000000 ≡ x
+half-digits x h = omega arith
+
+word-first : (x : ℕ) (l : List ℕ) → x < 0x10000000000000000 → wordAt (wordBytes x ++ l) 0 ≡ x
+unfolding wordAt
+word-first x l h =
+    rw (half-digits (x % 0x100000000) (omega arith), half-digits (x / 0x100000000) (omega arith)) (omega arith)
+
+word-in : (w : List ℕ) (i : ℕ) → Words w → i < length w → wordAt (bytesOf w) (8 * i) ≡ getD w i 0
+word-in [] i h k = absurd (omega arith)
+word-in (x ∷ l) zero h k = word-first x (bytesOf l) (h 0)
+word-in (x ∷ l) (suc i) h k =
+    let behind : 8 * suc i ≡ 8 + 8 * i = omega arith in
+    rw behind (sym (word-drop 8 (bytesOf (x ∷ l)) (8 * i)) ∙ word-in l i (λ j. h (suc j)) (le-of-suc-le-suc k))
+
+pub words-back : (w : List ℕ) → Words w → wordsOf (bytesOf w) ≡ w
+words-back w h =
+    let long : length (bytesOf w) / 8 ≡ length w = rw (bytes-length w) (omega arith) in
+    let same : length (wordsOf (bytesOf w)) ≡ length w = words-length (bytesOf w) ∙ long in
+    ext-getD 0 (wordsOf (bytesOf w)) w same (λ i k. words-at (bytesOf w) i (omega arith) ∙ word-in w i h (omega arith))
+
+-- ---- writing what was read
+
+take-up : (l : List ℕ) (n : ℕ) → n ≤ length l → take n l ≡ upTo (λ i. getD l i 0) n
+take-up l zero h = refl
+take-up l (suc n) h = take-suc l n 0 h ∙ ap (λ (r : List ℕ). r ++ (getD l n 0 ∷ [])) (take-up l n (omega arith))
+
+digit : (a r : ℕ) → a < 256 → (a + 256 * r) % 256 ≡ a
+digit a r h = omega arith
+
+digits-left : (a r : ℕ) → a < 256 → (a + 256 * r) / 256 ≡ r
+digits-left a r h = omega arith
+
+half-back : (a b c d : ℕ) → a < 256 → b < 256 → c < 256 → d < 256 → halfBytes (a + b * 0x100 + c * 0x10000 + d * 0x1000000) ≡ a ∷ b ∷ c ∷ d ∷ []
+half-back a b c d ha hb hc hd =
+    let nested : a + b * 0x100 + c * 0x10000 + d * 0x1000000 ≡ a + 256 * (b + 256 * (c + 256 * d)) = omega arith in
+    let last : d % 256 ≡ d = omega arith in
+    rw (nested, digits-left a (b + 256 * (c + 256 * d)) ha, digits-left b (c + 256 * d) hb, digits-left c d hc, digit a (b + 256 * (c + 256 * d)) ha, digit b (c + 256 * d) hb, digit c d hc, last)
+
+-- the bytes of the first word are the first eight
+word-back : (b : List ℕ) → Bytes b → 8 ≤ length b → wordBytes (wordAt b 0) ≡ take 8 b
+unfolding wordAt
+word-back b y h =
+    let low : halfAt b 0 < 0x100000000 = omega (arith, y 0, y 1, y 2, y 3) in
+    let rest : (halfAt b 0 + halfAt b 4 * 0x100000000) % 0x100000000 ≡ halfAt b 0 = omega arith in
+    let part : (halfAt b 0 + halfAt b 4 * 0x100000000) / 0x100000000 ≡ halfAt b 4 = omega arith in
+    let first : halfBytes (halfAt b 0) ≡ getD b 0 0 ∷ getD b 1 0 ∷ getD b 2 0 ∷ getD b 3 0 ∷ [] = half-back _ _ _ _ (y 0) (y 1) (y 2) (y 3) in
+    let second : halfBytes (halfAt b 4) ≡ getD b 4 0 ∷ getD b 5 0 ∷ getD b 6 0 ∷ getD b 7 0 ∷ [] = half-back _ _ _ _ (y 4) (y 5) (y 6) (y 7) in
+    rw (rest, part) ((λ i. first i ++ second i) ∙ sym (take-up b 8 h))
+
+words-front : (b : List ℕ) (n : ℕ) → Bytes b → 8 * n ≤ length b → bytesOf (upTo (λ i. wordAt b (8 * i)) n) ≡ take (8 * n) b
+words-front b zero y h = refl
+words-front b (suc n) y h =
+    let more : 8 * suc n ≡ 8 * n + 8 = omega arith in
+    let here : wordAt b (8 * n) ≡ wordAt (drop (8 * n) b) 0 = sym (word-drop (8 * n) b 0 ∙ ap (wordAt b) (add-zero (8 * n))) in
+    let bytes : Bytes (drop (8 * n) b) = λ i. rw (getD-drop (8 * n) b i 0) (y (8 * n + i)) in
+    rw (bytes-append (upTo (λ i. wordAt b (8 * i)) n) (wordAt b (8 * n) ∷ []), words-front b n y (omega arith), more, take-add (8 * n) 8 b, here, word-back (drop (8 * n) b) bytes (rw (length-drop (8 * n) b) (omega arith)))
+
+pub bytes-back : (b : List ℕ) → Bytes b → length b % 8 ≡ 0 → bytesOf (wordsOf b) ≡ b
+unfolding wordsOf
+bytes-back b y h = words-front b (length b / 8) y (omega arith) ∙ take-all (8 * (length b / 8)) b (omega arith)
+
+-- ---- a word put among bytes, a page put among bytes, and zeros
+
+eight-more : (n : ℕ) → 8 * suc n ≡ suc (suc (suc (suc (suc (suc (suc (suc (8 * n))))))))
+eight-more n = omega arith
+
+pub put-bytes : (w : List ℕ) (i x : ℕ) → i < length w → putWord (bytesOf w) (8 * i) x ≡ bytesOf (set w i x)
+unfolding putWord
+put-bytes [] i x h = absurd (omega arith)
+put-bytes (y ∷ l) zero x h = refl
+put-bytes (y ∷ l) (suc i) x h =
+    rw (eight-more i) (ap (λ (r : List ℕ). wordBytes y ++ r) (put-bytes l i x (le-of-suc-le-suc h)))
+
+put-two : (v : List ℕ) (i x m : ℕ) → 2 * i + 1 < length v → putWord (putWord (bytesOf v) (16 * i) x) (16 * i + 8) m ≡ bytesOf (set (set v (2 * i) x) (2 * i + 1) m)
+put-two v i x m h =
+    let first : 16 * i ≡ 8 * (2 * i) = omega arith in
+    let second : 16 * i + 8 ≡ 8 * (2 * i + 1) = omega arith in
+    rw (second, first, put-bytes v (2 * i) x (omega arith)) (put-bytes (set v (2 * i) x) (2 * i + 1) m (simp length-set h))
+
+pub page-bytes : (b : List ℕ) (i : ℕ) (w : PageWords) → Bytes b → length b % 8 ≡ 0 → putPage b i w ≡ bytesOf (putAt (wordsOf b) i w)
+unfolding putPage putAt
+page-bytes b i w y h =
+    let same : length (wordsOf b) / 2 ≡ length b / 16 = rw (words-length b) (omega arith) in
+    rw same (go (ltb i (length b / 16)) refl)
+  where
+    go : (c : Bool) → ltb i (length b / 16) ≡ c → cond c (putWord (putWord b (16 * i) (w .word)) (16 * i + 8) (w .mark)) b ≡ bytesOf (cond c (set (set (wordsOf b) (2 * i) (w .word)) (2 * i + 1) (w .mark)) (wordsOf b))
+    go true q =
+        let inside : i < length b / 16 = ltb-true _ _ q in
+        ap (λ (r : List ℕ). putWord (putWord r (16 * i) (w .word)) (16 * i + 8) (w .mark)) (sym (bytes-back b y h)) ∙ put-two (wordsOf b) i (w .word) (w .mark) (rw (words-length b) (omega arith))
+    go false q = sym (bytes-back b y h)
+
+pub zero-bytes : (n : ℕ) → bytesOf (replicate n 0) ≡ replicate (8 * n) 0
+zero-bytes zero = refl
+zero-bytes (suc n) = rw (eight-more n) (ap (λ (r : List ℕ). wordBytes 0 ++ r) (zero-bytes n))

@@ -1,0 +1,4 @@
+// What the C side lends, as bytes: words little-endian, the table's pages in place, and the session as 48 words.
+pub mod bytes;
+pub mod sessions;
+pub mod tables;
