@@ -1,13 +1,20 @@
-# The two commands of README.md.
-.PHONY: run test
+# The two commands of README.md, and what else there is to run.
+.PHONY: run test programs
 
-# Proves and builds what there is to run, and runs it.
+# Proves and builds the library, and runs the driver on it.
 run:
-	rt check named_numbers word_vectors scenario
-	.ci/program named_numbers
-	.ci/program word_vectors < crates/word_vectors/stdin
-	.ci/program scenario < crates/scenario/stdin
+	rt staticlib chirpsteeple
+	mkdir -p target/c
+	gcc -std=c11 -O2 -Iinclude examples/driver.c target/staticlib/libchirpsteeple.a -o target/c/driver
+	target/c/driver
 
 # The gate.
 test:
 	.ci/run
+
+# Proves and builds the programs, and runs them.
+programs:
+	rt check named_numbers word_vectors scenario
+	.ci/program named_numbers
+	.ci/program word_vectors < crates/word_vectors/stdin
+	.ci/program scenario < crates/scenario/stdin

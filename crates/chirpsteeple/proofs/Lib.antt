@@ -1,4 +1,5 @@
 pub mod LayoutLaws
 pub mod ListLaws
 pub mod PageLaws
+pub mod Promises
 pub mod TablesLaws

@@ -1,3 +1,4 @@
 pub mod Bytes
+pub mod Promises
 pub mod Sessions
 pub mod Tables

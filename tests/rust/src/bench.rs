@@ -38,7 +38,7 @@ pub struct Answer {
 }
 
 impl Answer {
-    fn plain(code: u64) -> Self {
+    pub(crate) fn plain(code: u64) -> Self {
         Answer { code, ..Answer::default() }
     }
 }

@@ -1,12 +1,13 @@
 //! Scenarios that nobody wrote: lines for the program `scenario`, at random.
 
+pub mod any;
 mod lists;
 
-use crate::bench::record::{Record, BASE};
-use crate::bench::session::Phase;
+use crate::bench::session::{Phase, Session, Stream};
 use crate::bench::{MOST_ENTRIES, MOST_WORDS};
 use crate::random::Random;
 use crate::scenario::Scenario;
+use any::{interrupted, record, well_formed, BOUNDS};
 
 /// The words of the calls.
 pub const CALLS: [&str; 17] = [
@@ -16,12 +17,6 @@ pub const CALLS: [&str; 17] = [
 
 /// Those that a guest's life is made of.
 const GUEST: [&str; 9] = ["write", "write", "add", "accept", "accept", "block", "unblock", "remove", "track"];
-
-/// Numbers at the bounds of some field, and far beyond all of them.
-const BOUNDS: [u64; 22] = [
-    0, 1, 2, 3, 4, 5, 7, 8, 9, 10, 511, 512, 4_095, 4_096, 4_097, 65_534, 65_535, 65_536, 1 << 32, 1 << 48, 1 << 63,
-    u64::MAX,
-];
 
 /// The words that are kept for the table, and for list and buffer each.
 const SPACE: u64 = MOST_WORDS as u64 + 2;
@@ -144,33 +139,35 @@ impl History {
     }
 
     fn well_formed(&mut self, random: &mut Random) {
-        let phase = random.pick(&[0, 1, 1, 2, 2, 3]);
-        let complete = random.one_in(3);
-        self.say(format!("lend {}", 2 * self.pages));
-        self.say(format!("phase {phase}"));
-        self.say(format!("pages {}", self.pages));
-        self.say(format!("tlb {}", random.pick(&[1, 2, 3, 4, 65_534, 65_535])));
-        self.say(format!("epoch {}", if phase == 0 { 0 } else { random.pick(&[1, 2, 3, 65_534, 65_535]) }));
-        self.say(format!("created {}", 2 + random.below(8)));
-        self.say(format!("place {}", if complete { self.pages } else { random.below(self.pages + 1) }));
-        self.say(format!("complete {}", complete as u64));
-        self.say(format!("failed {}", (!complete && random.one_in(4)) as u64));
-        for index in 0..8 {
-            self.say(format!("rest {index}"));
+        let Session { phase, pages, tlb, epoch, created, check, streams } = well_formed(random, self.pages);
+        self.say(format!("lend {}", 2 * pages));
+        for (field, number) in [
+            ("phase", phase as u64),
+            ("pages", pages),
+            ("tlb", tlb),
+            ("epoch", epoch),
+            ("created", created),
+            ("place", check.place),
+            ("complete", check.complete as u64),
+            ("failed", check.failed as u64),
+        ] {
+            self.say(format!("{field} {number}"));
         }
-        if random.one_in(4) {
-            self.interrupt(random);
-        }
+        (0..8).for_each(|index| self.say_stream(index, streams[index]));
+    }
+
+    fn say_stream(&mut self, index: usize, stream: Stream) {
+        self.say(match stream {
+            Stream::AtRest => format!("rest {index}"),
+            Stream::Interrupted { next, last, errors, data } => format!("stream {index} {next} {last} {errors} {data}"),
+        });
     }
 
     /// Interrupts a usable stream, where one may be.
     fn interrupt(&mut self, random: &mut Random) {
         if matches!(self.scenario.session.phase, Phase::Live | Phase::Blackout) {
             let index = random.below(self.scenario.session.created - 1);
-            let last = if random.one_in(2) { random.below(8) } else { random.below(512) };
-            let next = random.below(last + 1);
-            let (errors, data) = (random.below(next + 1), random.below(next + 1));
-            self.say(format!("stream {index} {next} {last} {errors} {data}"));
+            self.say_stream(index as usize, interrupted(random));
         }
     }
 
@@ -188,27 +185,8 @@ impl History {
     }
 
     fn poke(&mut self, random: &mut Random, page: u64) {
-        let session = self.scenario.session;
-        let stamps = [0, 1, session.tlb.saturating_sub(1), session.tlb, 65_535.min(session.tlb + 1), 65_535];
-        let state = match random.below(12) {
-            0 => random.below(256),
-            // The states that start takes.
-            _ if session.phase == Phase::Idle => random.below(5),
-            _ => random.pick(&BASE),
-        };
-        let record = Record {
-            state,
-            dirty: random.one_in(2),
-            cached: random.one_in(2),
-            stamp: random.pick(&stamps),
-            epoch: random.pick(&[0, session.epoch, 65_535]),
-        };
-        let spare = match random.below(16) {
-            0 => 1 << (10 + random.below(6)),
-            1 => 1 << (48 + random.below(16)),
-            _ => 0,
-        };
-        self.say(format!("word {} {}", 2 * page, record.word() | spare));
+        let record = record(random, &self.scenario.session);
+        self.say(format!("word {} {record}", 2 * page));
         self.say(format!("word {} {}", 2 * page + 1, random.uneven_word()));
     }
 

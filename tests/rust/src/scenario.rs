@@ -3,74 +3,27 @@
 use crate::bench::export::{export, Operands};
 use crate::bench::memory::{accept, add, block, new, remove, track, unblock, write};
 use crate::bench::scans::{dcheck, dscan, reset};
-use crate::bench::session::{Check, Phase, Session, Stream};
+use crate::bench::session::{Phase, Session, Stream};
 use crate::bench::session_calls::{abort, new_epoch, pause, start, start_token};
-use crate::bench::{Answer, MOST_ENTRIES, MOST_WORDS};
-
-/// Words that the host keeps: two more than a call may be lent, so that too many can be.
-pub struct Space {
-    pub words: Vec<u64>,
-    /// How many of them, from the first, are lent to a call.
-    pub lent: usize,
-}
-
-impl Space {
-    fn beyond(most: usize) -> Self {
-        Space { words: vec![0; most + 2], lent: 0 }
-    }
-
-    fn lend(&mut self, length: u64) {
-        self.lent = length.min(self.words.len() as u64) as usize;
-    }
-
-    fn put(&mut self, at: u64, word: u64) {
-        if at < self.words.len() as u64 {
-            self.words[at as usize] = word;
-        }
-    }
-
-    fn lent(&mut self) -> &mut [u64] {
-        &mut self.words[..self.lent]
-    }
-
-    /// The words from a to b-1.
-    fn show(&self, a: u64, b: u64) -> String {
-        let shown = a..b.min(self.words.len() as u64);
-        let words: Vec<String> = shown.map(|i| format!("{:016x}", self.words[i as usize])).collect();
-        words.join(" ")
-    }
-}
+use crate::bench::Answer;
+use crate::spaces::Spaces;
 
 pub struct Scenario {
     pub session: Session,
     /// What the last call answered.
     pub answer: Answer,
-    pub table: Space,
-    pub list: Space,
-    pub buffer: Space,
+    pub spaces: Spaces,
 }
 
 /// What a line prints for which there is no reading.
 const UNREADABLE: &str = "unreadable";
 
-const PHASES: [Phase; 4] = [Phase::Idle, Phase::Live, Phase::Blackout, Phase::Done];
-
 impl Default for Scenario {
     fn default() -> Self {
         Scenario {
-            session: Session {
-                phase: Phase::Idle,
-                pages: 0,
-                tlb: 0,
-                epoch: 0,
-                created: 0,
-                check: Check::RESET,
-                streams: Session::STREAMS_AT_REST,
-            },
+            session: Session::BLANK,
             answer: Answer::default(),
-            table: Space::beyond(MOST_WORDS),
-            list: Space::beyond(MOST_ENTRIES),
-            buffer: Space::beyond(MOST_ENTRIES),
+            spaces: Spaces::default(),
         }
     }
 }
@@ -78,25 +31,18 @@ impl Default for Scenario {
 impl Scenario {
     /// Does what the line says, and returns what that prints, if anything.
     pub fn line(&mut self, line: &str) -> Option<String> {
-        let content = line.split('#').next().unwrap_or("");
-        let mut parts = content.split(|c| matches!(c, ' ' | '\t' | '\r')).filter(|part| !part.is_empty());
-        let word = parts.next()?;
-        let mut numbers = [0; 5];
-        for (index, part) in parts.enumerate() {
-            match number(part) {
-                Some(n) if index < 5 => numbers[index] = n,
-                Some(_) => (),
-                None => return Some(UNREADABLE.to_owned()),
-            }
-        }
+        let (word, numbers) = parts(line)?;
+        let Some(numbers) = numbers else {
+            return Some(UNREADABLE.to_owned());
+        };
         if self.hand(word, numbers) {
             return None;
         }
         let [a, b, ..] = numbers;
         Some(match word {
-            "show" => self.table.show(a, b),
-            "listed" => self.list.show(a, b),
-            "sent" => self.buffer.show(a, b),
+            "show" => self.spaces.table.show(a, b),
+            "listed" => self.spaces.list.show(a, b),
+            "sent" => self.spaces.buffer.show(a, b),
             _ => match self.call(word, numbers) {
                 Some(answer) => {
                     self.answer = answer;
@@ -111,13 +57,7 @@ impl Scenario {
     fn hand(&mut self, word: &str, [a, b, c, d, e]: [u64; 5]) -> bool {
         let session = &mut self.session;
         match word {
-            "lend" => self.table.lend(a),
-            "list" => self.list.lend(a),
-            "buffer" => self.buffer.lend(a),
-            "word" => self.table.put(a, b),
-            "entry" => self.list.put(a, b),
-            "content" => self.buffer.put(a, b),
-            "phase" => session.phase = PHASES[a.min(3) as usize],
+            "phase" => session.phase = Phase::ALL[a.min(3) as usize],
             "pages" => session.pages = a,
             "tlb" => session.tlb = a,
             "epoch" => session.epoch = a,
@@ -135,14 +75,14 @@ impl Scenario {
                     session.streams[a as usize] = Stream::AtRest;
                 }
             }
-            _ => return false,
+            _ => return self.spaces.hand(word, a, b),
         }
         true
     }
 
     fn call(&mut self, word: &str, [a, b, c, d, _]: [u64; 5]) -> Option<Answer> {
-        let (session, table) = (&mut self.session, self.table.lent());
-        let (list, buffer) = (self.list.lent(), self.buffer.lent());
+        let session = &mut self.session;
+        let [table, list, buffer] = self.spaces.lent();
         Some(match word {
             "new" => new(session, table, a),
             "write" => write(session, table, a, b),
@@ -178,7 +118,8 @@ impl Scenario {
             })
             .collect();
         let Answer { code, page, next, first, last, info, errors, buffers } = self.answer;
-        let [table, list, buffer] = [&self.table, &self.list, &self.buffer].map(|space| digest(&space.words));
+        let Spaces { table, list, buffer } = &self.spaces;
+        let [table, list, buffer] = [table, list, buffer].map(|space| digest(&space.words));
         [
             format!("code {code} page {page} next {next} first {first} last {last}"),
             format!("info {info:016x} errors {errors} buffers {buffers}"),
@@ -190,8 +131,24 @@ impl Scenario {
     }
 }
 
+/// The word of a line, and the five numbers behind it unless one is none; a line without a word says nothing.
+pub fn parts(line: &str) -> Option<(&str, Option<[u64; 5]>)> {
+    let content = line.split('#').next().unwrap_or("");
+    let mut parts = content.split(|c| matches!(c, ' ' | '\t' | '\r')).filter(|part| !part.is_empty());
+    let word = parts.next()?;
+    let mut numbers = [0; 5];
+    for (index, part) in parts.enumerate() {
+        match number(part) {
+            Some(n) if index < 5 => numbers[index] = n,
+            Some(_) => (),
+            None => return Some((word, None)),
+        }
+    }
+    Some((word, Some(numbers)))
+}
+
 /// A number of 64 bits, leading zeros or not: decimal, or hexadecimal behind an x that follows zeros alone.
-pub fn number(part: &str) -> Option<u64> {
+fn number(part: &str) -> Option<u64> {
     let (base, digits) = match part.split_once('x') {
         Some((zeros, digits)) if !zeros.is_empty() && zeros.bytes().all(|zero| zero == b'0') => (16, digits),
         _ => (10, part),
@@ -217,6 +174,8 @@ pub fn printed(input: &str) -> Vec<(usize, String)> {
 #[cfg(test)]
 mod tests {
     use super::*;
+    use crate::bench::{MOST_ENTRIES, MOST_WORDS};
+    use crate::spaces::Space;
 
     #[test]
     fn every_word_weighs_in_the_digest() {
@@ -272,12 +231,12 @@ mod tests {
         for silent in ["", "  ", "# lend 4", "lend 4", "lend 2 3 4 5 6 7 ", "word  1  18446744073709551615 # all bits"] {
             assert_eq!(scenario.line(silent), None, "{silent}");
         }
-        assert_eq!(scenario.table.lent, 2);
+        assert_eq!(scenario.spaces.table.lent, 2);
         assert_eq!(scenario.line("show 0 3").unwrap(), "0000000000000000 ffffffffffffffff 0000000000000000");
         assert_eq!(scenario.line("show 5").unwrap(), "");
         for unreadable in ["word 0 18446744073709551616", "lend -1", "lend 1,2", "Lend 1", "lent 1", "7", "lend 8 x"] {
             assert_eq!(scenario.line(unreadable).unwrap(), UNREADABLE, "{unreadable}");
         }
-        assert_eq!(scenario.table.lent, 2);
+        assert_eq!(scenario.spaces.table.lent, 2);
     }
 }

@@ -1,8 +1,8 @@
 //! The words of document 01, bit by bit: a word is 64 bits, and a run `hi:lo` is some of them in a row.
 
-/// Bit `i` of a word, by division.
+/// Bit `i` of a word.
 fn bit(w: u64, i: u32) -> u64 {
-    (0..i).fold(w, |q, _| q / 2) % 2
+    (w >> i) % 2
 }
 
 /// The number in bits hi:lo, highest bit first.

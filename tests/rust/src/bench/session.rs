@@ -10,6 +10,11 @@ pub enum Phase {
     Done,
 }
 
+impl Phase {
+    /// In the order of their numbers.
+    pub const ALL: [Phase; 4] = [Phase::Idle, Phase::Live, Phase::Blackout, Phase::Done];
+}
+
 /// The progress of the check: its next page, and how it ended if it did.
 #[derive(Clone, Copy, Debug, PartialEq, Eq)]
 pub struct Check {
@@ -44,6 +49,17 @@ pub struct Session {
 
 impl Session {
     pub const STREAMS_AT_REST: [Stream; 8] = [Stream::AtRest; 8];
+
+    /// Every number 0; malformed, and so of no use but to New.
+    pub const BLANK: Session = Session {
+        phase: Phase::Idle,
+        pages: 0,
+        tlb: 0,
+        epoch: 0,
+        created: 0,
+        check: Check::RESET,
+        streams: Session::STREAMS_AT_REST,
+    };
 
     /// Some stream is interrupted.
     pub fn busy(&self) -> bool {

@@ -1,13 +1,10 @@
 //! Lines with lists: scans, and exports of what they listed or of anything else.
 
-use super::{History, BOUNDS};
+use super::any::{entry, info, BOUNDS, LENGTHS};
+use super::History;
 use crate::bench::codes::INTERRUPTED;
 use crate::bench::session::{Phase, Stream};
 use crate::random::Random;
-use crate::words::{ENTRY, INFO};
-
-/// Lengths of lists, those at the bounds among them.
-const LENGTHS: [u64; 13] = [0, 1, 2, 3, 4, 5, 8, 256, 257, 511, 512, 513, 514];
 
 /// What an export is asked for.
 struct Asked {
@@ -120,7 +117,7 @@ impl History {
 
     /// A new export: of all that the last scan listed, of the whole list, or of a part of it.
     fn begin(&mut self, random: &mut Random) {
-        let end = (self.scenario.list.lent as u64).saturating_sub(1);
+        let end = (self.scenario.spaces.list.lent as u64).saturating_sub(1);
         let last = match random.below(16) {
             0 => random.below(512),
             1 => end + 1,
@@ -135,7 +132,7 @@ impl History {
     /// A step more of an interrupted export, if there is one.
     pub(super) fn go_on(&mut self, random: &mut Random) {
         if let Some((stream, first, last)) = self.interrupted(random) {
-            if last >= self.scenario.list.lent as u64 && !random.one_in(8) {
+            if last >= self.scenario.spaces.list.lent as u64 && !random.one_in(8) {
                 self.lend_lists(last + 1, last + 1);
             }
             self.export(random, Asked { stream, resume: true, first, last });
@@ -170,6 +167,7 @@ impl History {
             _ => u64::MAX,
         };
         let info = info(random, first, last);
+        let info = if random.one_in(4) { info.to_string() } else { format!("{info:#018x}") };
         self.say(format!("export {stream} {resume} {info} {budget}"));
     }
 
@@ -177,46 +175,9 @@ impl History {
     fn some_entries(&mut self, random: &mut Random) {
         for _ in 0..1 + random.below(4) {
             let at = if random.one_in(4) { random.below(512) } else { random.below(6) };
-            let word = self.entry(random);
+            let page = random.pick(&self.some_pages());
+            let word = entry(random, page, self.pages);
             self.say(format!("entry {at} {word:#x}"));
         }
-    }
-
-    /// An entry for one of the pages with what the export ignores set at random, or one with a fault.
-    fn entry(&self, random: &mut Random) -> u64 {
-        let [level, pending, state, reserved5, l2_map, mig_type, gpa, operation, reserved54, status, reserved61] =
-            ENTRY;
-        let mut word = operation.with(gpa.with(0, random.pick(&self.some_pages())), 1);
-        if random.one_in(3) {
-            let ignored = random.word();
-            word = [pending, state, l2_map, status].iter().fold(word, |word, run| run.with(word, run.of(ignored)));
-        }
-        match random.below(12) {
-            0 => operation.with(word, random.word()),
-            1 => gpa.with(word, self.pages + random.below(2)),
-            2 => gpa.with(word, random.uneven_word()),
-            3 => {
-                let faulty = random.below(5) as usize;
-                [level, reserved5, mig_type, reserved54, reserved61][faulty].with(word, random.word())
-            }
-            4 => random.uneven_word(),
-            _ => word,
-        }
-    }
-}
-
-/// An info word, in which bits that must be 0 are set now and then. HPA is any.
-fn info(random: &mut Random, of_first: u64, of_last: u64) -> String {
-    let [format, first, hpa, zero, last] = INFO;
-    let mut word = last.with(first.with(hpa.with(0, random.word()), of_first), of_last);
-    match random.below(40) {
-        0 => word = format.with(word, random.word()),
-        1 => word = zero.with(word, random.word()),
-        _ => (),
-    }
-    if random.one_in(4) {
-        word.to_string()
-    } else {
-        format!("{word:#018x}")
     }
 }

@@ -1,0 +1,193 @@
+/* Slices of the wrong length, of none, and lists at both sides of their bounds. */
+#include "tests.h"
+
+#include <stdlib.h>
+#include <string.h>
+
+/* More pages than a list holds, so that every list is filled. */
+enum { PAGES = 600 };
+
+/* A call that is refused: its code, all other numbers 0, and every byte as it was. */
+static void expect_refusal(enum call call, const struct bench *bench, uint64_t code)
+{
+    const struct slice slices[] = {bench->session, bench->table, bench->list, bench->buffer};
+    uint8_t *before[4];
+    for (unsigned i = 0; i < 4; i++) {
+        before[i] = malloc(slices[i].length + 1);
+        if (slices[i].length > 0)
+            memcpy(before[i], slices[i].bytes, slices[i].length);
+    }
+    expect_answer(call, bench, (struct answer){code, {0}});
+    for (unsigned i = 0; i < 4; i++) {
+        CHECK(slices[i].length == 0 || memcmp(before[i], slices[i].bytes, slices[i].length) == 0);
+        free(before[i]);
+    }
+}
+
+static struct bench live_bench(void)
+{
+    struct bench bench = heap_bench(PAGES, 0, 0);
+    fill(&bench);
+    bench.page = 0;
+    expect_code(START, &bench, CHIRP_DONE);
+    return bench;
+}
+
+static struct bench blackout_bench(void)
+{
+    struct bench bench = live_bench();
+    expect_code(PAUSE, &bench, CHIRP_DONE);
+    return bench;
+}
+
+static void expect_malformed(enum call first, const struct bench *bench)
+{
+    for (enum call call = first; call < CALLS; call++)
+        expect_refusal(call, bench, CHIRP_MALFORMED);
+}
+
+void null_pointers_with_length_0(void)
+{
+    struct bench empty = {.streams = 2, .count = 1};
+    expect_malformed(NEW, &empty);
+    struct bench bench = live_bench();
+    struct bench no_table = {.session = bench.session, .streams = 2, .count = 1};
+    expect_malformed(NEW, &no_table);
+    expect_answer(DSCAN, &bench, (struct answer){CHIRP_LIST_FULL, {0, 511, 0}});
+    expect_refusal(EXPORT, &bench, CHIRP_OPERAND_INVALID);
+    expect_code(PAUSE, &bench, CHIRP_DONE);
+    expect_answer(DCHECK, &bench, (struct answer){CHIRP_LIST_FULL, {0, 511, 0}});
+    free_bench(&bench);
+}
+
+/* The same bytes in an allocation of another length: cut off, or with zeros behind them. */
+static struct slice of_length(struct slice slice, size_t length)
+{
+    struct slice other = heap_slice(length, 0);
+    if (length > 0)
+        memcpy(other.bytes, slice.bytes, length < slice.length ? length : slice.length);
+    return other;
+}
+
+static void expect_malformed_table(enum call first, struct bench bench, size_t length)
+{
+    bench.table = of_length(bench.table, length);
+    expect_malformed(first, &bench);
+    free_slice(&bench.table);
+}
+
+void lengths_of_sessions_and_tables(void)
+{
+    static const size_t sessions[] = {0, 1, 8, 376, 383, 385, 392}, no_tables[] = {0, 8, 15, 17, 65535, 65537, 65552};
+    static const size_t other_tables[] = {16, (PAGES - 1) * CHIRP_PAGE_BYTES, (PAGES + 1) * CHIRP_PAGE_BYTES, 65536};
+    struct bench bench = live_bench();
+    for (unsigned i = 0; i < sizeof sessions / sizeof *sessions; i++) {
+        struct bench other = bench;
+        other.session = of_length(bench.session, sessions[i]);
+        expect_malformed(NEW, &other);
+        free_slice(&other.session);
+    }
+    for (unsigned i = 0; i < sizeof no_tables / sizeof *no_tables; i++)
+        expect_malformed_table(NEW, bench, no_tables[i]);
+    for (unsigned i = 0; i < sizeof other_tables / sizeof *other_tables; i++)
+        expect_malformed_table(WRITE, bench, other_tables[i]);
+    free_bench(&bench);
+}
+
+/* Gives the bench a list and a buffer of these lengths, exactly allocated, filled with 1 bits. */
+static void lend(struct bench *bench, size_t list, size_t buffer, size_t offset)
+{
+    free_slice(&bench->list);
+    free_slice(&bench->buffer);
+    bench->list = heap_slice(list, offset);
+    bench->buffer = heap_slice(buffer, offset);
+    if (list > 0)
+        memset(bench->list.bytes, 0xff, list);
+    if (buffer > 0)
+        memset(bench->buffer.bytes, 0xff, buffer);
+}
+
+/* A scan over a list of so many words fills it. */
+static void expect_filled(enum call call, struct bench *bench, uint64_t words, uint64_t from)
+{
+    struct answer wanted = {CHIRP_LIST_FULL, {from + words, words == 0 ? 511 : 0, words == 0 ? 0 : words - 1}};
+    expect_answer(call, bench, wanted);
+    for (uint64_t i = 0; i < words; i++)
+        EQUAL(word_at(bench->list.bytes, i), entry_for(from + i));
+}
+
+/* An export of pages that were never scanned: all are Dirty, and the entries say so. */
+static void expect_dirty(struct bench *bench, uint64_t words)
+{
+    for (uint64_t i = 0; i < words; i++)
+        put_word(bench->list.bytes, i, entry_for(i));
+    bench->info = info_for(0, words - 1);
+    expect_answer(EXPORT, bench, (struct answer){CHIRP_DONE, {info_for(words % 512, words - 1), words, words > 256 ? 3 : 2}});
+    for (uint64_t i = 0; i < words; i++) {
+        EQUAL(entry_status(word_at(bench->list.bytes, i)), CHIRP_STATUS_PAGE_DIRTY);
+        EQUAL(word_at(bench->buffer.bytes, i), 0);
+    }
+}
+
+static const uint64_t list_words[] = {0, 1, 255, 256, 257, 511, 512};
+enum { LISTS = sizeof list_words / sizeof *list_words };
+
+void lists_of_every_length(void)
+{
+    struct bench live = live_bench(), paused = blackout_bench();
+    for (size_t offset = 0; offset < 2; offset++)
+        for (unsigned i = 0; i < LISTS; i++) {
+            uint64_t words = list_words[i], bytes = words * CHIRP_WORD_BYTES;
+            lend(&live, bytes, bytes, offset);
+            if (words > 0)
+                expect_dirty(&live, words);
+            lend(&paused, bytes, 0, offset);
+            expect_code(RESET, &paused, CHIRP_DONE);
+            expect_filled(DCHECK, &paused, words, 0);
+        }
+    for (unsigned i = 0; i < LISTS; i++) {
+        lend(&live, list_words[i] * CHIRP_WORD_BYTES, 0, 1);
+        live.first = PAGES - CHIRP_MAX_ENTRIES - 1;
+        live.count = CHIRP_MAX_ENTRIES + 1;
+        expect_filled(DSCAN, &live, list_words[i], live.first);
+    }
+    free_bench(&live);
+    free_bench(&paused);
+}
+
+/* All three calls that take a list refuse one of this many bytes. */
+static void expect_refused_list(struct bench *live, struct bench *paused, size_t bytes, size_t offset)
+{
+    lend(live, bytes, bytes, offset);
+    lend(paused, bytes, bytes, offset);
+    live->info = info_for(0, 0);
+    paused->info = live->info;
+    expect_refusal(DSCAN, live, CHIRP_OPERAND_INVALID);
+    expect_refusal(EXPORT, live, CHIRP_OPERAND_INVALID);
+    expect_refusal(DCHECK, paused, CHIRP_OPERAND_INVALID);
+    expect_refusal(EXPORT, paused, CHIRP_OPERAND_INVALID);
+}
+
+void ragged_lists(void)
+{
+    static const size_t whole[] = {0, 8, 4088, 4096};
+    struct bench live = live_bench(), paused = blackout_bench();
+    for (unsigned i = 0; i < sizeof whole / sizeof *whole; i++)
+        for (size_t more = 1; more < CHIRP_WORD_BYTES; more++)
+            expect_refused_list(&live, &paused, whole[i] + more, more % 2);
+    expect_refused_list(&live, &paused, (CHIRP_MAX_ENTRIES + 1) * CHIRP_WORD_BYTES, 0);
+    free_bench(&live);
+    free_bench(&paused);
+}
+
+void buffers_of_another_length(void)
+{
+    static const size_t buffers[] = {0, 1, 4087, 4088, 4095, 4097, 4104};
+    struct bench live = live_bench();
+    for (unsigned i = 0; i < sizeof buffers / sizeof *buffers; i++) {
+        lend(&live, CHIRP_MAX_ENTRIES * CHIRP_WORD_BYTES, buffers[i], 0);
+        live.info = info_for(0, 0);
+        expect_refusal(EXPORT, &live, CHIRP_OPERAND_INVALID);
+    }
+    free_bench(&live);
+}

@@ -1,0 +1,100 @@
+//! A call as numbers, what is lent to it, and who may answer it.
+
+use chirpsteeple_tests::bench::session::Session;
+use chirpsteeple_tests::bench::Answer;
+use chirpsteeple_tests::host::{self, bytes, Export};
+use std::fmt;
+
+/// A call by its word in `histories::CALLS`, and its numbers in the order of the C function.
+#[derive(Clone, Copy)]
+pub struct Call {
+    pub word: &'static str,
+    pub numbers: [u64; 4],
+}
+
+impl Call {
+    /// A call with as many numbers as it takes.
+    pub fn new(word: &'static str, given: &[u64]) -> Self {
+        let mut numbers = [0; 4];
+        numbers[..given.len()].copy_from_slice(given);
+        Call { word, numbers }
+    }
+
+    /// How many numbers it takes.
+    pub fn arity(word: &str) -> usize {
+        match word {
+            "export" => 4,
+            "dscan" => 3,
+            "write" => 2,
+            "new" | "add" | "accept" | "block" | "unblock" | "remove" | "dcheck" => 1,
+            _ => 0,
+        }
+    }
+}
+
+impl fmt::Display for Call {
+    fn fmt(&self, f: &mut fmt::Formatter) -> fmt::Result {
+        write!(f, "{}", self.word)?;
+        self.numbers[..Call::arity(self.word)].iter().try_for_each(|number| write!(f, " {number:#x}"))
+    }
+}
+
+/// The slices that are lent to a call, each with no byte to spare behind it.
+#[derive(Clone)]
+pub struct Lent {
+    pub session: Box<[u8]>,
+    pub table: Box<[u8]>,
+    pub list: Box<[u8]>,
+    pub buffer: Box<[u8]>,
+}
+
+impl Lent {
+    pub fn new(session: &[u64], table: &[u64], list: &[u64], buffer: &[u64]) -> Self {
+        let [session, table, list, buffer] = [session, table, list, buffer].map(|words| bytes::bytes(words).into());
+        Lent { session, table, list, buffer }
+    }
+
+    pub fn of_session(session: &Session, table: &[u64], list: &[u64], buffer: &[u64]) -> Self {
+        Lent { session: bytes::session_bytes(session).into(), ..Lent::new(&[], table, list, buffer) }
+    }
+
+    /// The slices by their names.
+    pub fn slices(&self) -> [(&'static str, &[u8]); 4] {
+        [("session", &self.session), ("table", &self.table), ("list", &self.list), ("buffer", &self.buffer)]
+    }
+}
+
+/// Whoever answers calls: the library, the implementation that it is compared with, or one that is wrong on purpose.
+pub trait Bench {
+    fn call(&mut self, call: Call, lent: &mut Lent) -> Answer;
+}
+
+/// The implementation from document 01.
+pub struct FromDocument;
+
+impl Bench for FromDocument {
+    fn call(&mut self, call: Call, lent: &mut Lent) -> Answer {
+        let Lent { session, table, list, buffer } = lent;
+        let [a, b, c, d] = call.numbers;
+        match call.word {
+            "new" => host::new(session, table, a),
+            "write" => host::write(session, table, a, b),
+            "add" => host::add(session, table, a),
+            "accept" => host::accept(session, table, a),
+            "block" => host::block(session, table, a),
+            "unblock" => host::unblock(session, table, a),
+            "remove" => host::remove(session, table, a),
+            "track" => host::track(session, table),
+            "start" => host::start(session, table),
+            "pause" => host::pause(session, table),
+            "abort" => host::abort(session, table),
+            "newepoch" => host::new_epoch(session, table),
+            "dscan" => host::dscan(session, table, a, b, list, c),
+            "dcheck" => host::dcheck(session, table, list, a),
+            "reset" => host::reset(session, table),
+            "export" => host::export(session, table, list, buffer, Export { stream: a, resume: b, info: c, budget: d }),
+            "token" => host::start_token(session, table),
+            word => panic!("{word} is no call"),
+        }
+    }
+}

@@ -1,0 +1,20 @@
+//! What follows from one seed: a random scenario, some migrations, and some sessions and tables from nowhere.
+
+use crate::comparison::{Comparison, Difference};
+use crate::driver::migration;
+use crate::handed::handed;
+use crate::lines::play;
+use chirpsteeple_tests::histories::random_scenario;
+use chirpsteeple_tests::random::Random;
+
+const LINES: usize = 2_000;
+const MIGRATIONS: usize = 6;
+const HANDED: usize = 100;
+
+pub fn run(comparison: &mut Comparison, seed: u64) -> Result<(), Difference> {
+    comparison.under(seed);
+    let random = &mut Random::new(seed);
+    play(comparison, random, &random_scenario(seed, LINES))?;
+    (0..MIGRATIONS).try_for_each(|_| migration(comparison, random))?;
+    (0..HANDED).try_for_each(|_| handed(comparison, random))
+}

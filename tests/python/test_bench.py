@@ -1,0 +1,193 @@
+"""One whole migration over ctypes, replayed and compared, and some refusals."""
+
+import os
+import random
+import sys
+import unittest
+
+import chirpsteeple as chirp
+
+PAGES = 300
+MIGRATE, CANCEL, REMIGRATE = 1, 2, 3
+LIBRARY = chirp.load(os.path.abspath(sys.argv[1]))
+ALL = 1 << 63
+
+
+class Guest:
+    """A bench with a guest whose memory is kept here too: page to contents, None while it is pending; absent pages are not in it."""
+
+    def __init__(self):
+        self.bench = chirp.Bench(LIBRARY, PAGES)
+        self.random = random.Random(2025)
+        self.memory = {}
+        self.must(self.bench.new(3))
+        for page in range(PAGES):
+            if page % 10 < 8:
+                self.must(self.bench.add(page))
+                self.memory[page] = None
+            if page % 10 < 7:
+                self.accept(page)
+
+    def must(self, code):
+        if code != chirp.DONE:
+            raise AssertionError(f"answered {code}")
+
+    def accept(self, page):
+        self.must(self.bench.accept(page))
+        self.memory[page] = 0
+
+    def work(self, moves):
+        for _ in range(moves):
+            page = self.random.choice(sorted(self.memory))
+            if self.memory[page] is None:
+                self.accept(page)
+            mark = self.random.getrandbits(64)
+            self.must(self.bench.write(page, mark))
+            self.memory[page] = mark
+
+    def give_up(self, page):
+        """The host takes a page back: block, track, remove."""
+        self.must(self.bench.block(page))
+        self.must(self.bench.track())
+        self.must(self.bench.remove(page))
+        del self.memory[page]
+
+
+class Migration:
+    """Scans and exports; keeps what was sent, in order."""
+
+    def __init__(self, guest):
+        self.guest, self.bench = guest, guest.bench
+        self.sent = []
+        self.statuses = {}
+
+    def collect(self, scan, ending):
+        """Calls the scan with lists of 40 entries until it answers its last code; returns all entries."""
+        entries, code, place = [], None, 0
+        while code != ending:
+            listed = chirp.as_bytes([0] * 40)
+            code, place, first, last = scan(place, listed)
+            if code not in (chirp.INTERRUPTED, chirp.LIST_FULL, ending):
+                raise AssertionError(f"a scan answered {code}")
+            entries += chirp.words(listed)[first:last + 1]
+        return entries
+
+    def scan(self):
+        return self.collect(lambda place, listed: self.bench.dscan(place, PAGES - place, listed, 70), chirp.DONE)
+
+    def check(self):
+        return self.collect(lambda _, listed: self.bench.dcheck(listed, 70), chirp.CHECK_COMPLETE)
+
+    def export(self, entries, moves):
+        """One operation on stream 1, 16 entries a call, with the guest at work between the calls."""
+        listed, contents = chirp.as_bytes(entries), chirp.as_bytes([0] * len(entries))
+        info, resume, code = chirp.info_for(0, len(entries) - 1), 0, chirp.INTERRUPTED
+        errors = 0
+        while code == chirp.INTERRUPTED:
+            begin = chirp.info_first(info)
+            code, info, told, _ = self.bench.export(listed, contents, 1, resume, info, 16)
+            if code not in (chirp.DONE, chirp.INTERRUPTED):
+                raise AssertionError(f"export answered {code}")
+            end = len(entries) if code == chirp.DONE else chirp.info_first(info)
+            errors += self.read_back(chirp.words(listed)[begin:end], chirp.words(contents)[begin:end])
+            resume = 1
+            self.guest.work(moves)
+        if told != errors:
+            raise AssertionError(f"{told} errors told, {errors} in the entries")
+
+    def read_back(self, entries, contents):
+        errors = 0
+        for entry, word in zip(entries, contents):
+            page, operation, pending, status = chirp.entry_fields(entry)
+            self.statuses[status] = self.statuses.get(status, 0) + 1
+            if status == 0:
+                self.sent.append((page, operation, pending, word))
+            errors += status not in (0, 1)
+        return errors
+
+    def replayed(self):
+        memory = {}
+        for page, operation, pending, word in self.sent:
+            if operation == CANCEL:
+                del memory[page]
+            else:
+                memory[page] = None if pending else word
+        return memory
+
+
+class WholeMigration(unittest.TestCase):
+    def test_a_migration_replayed_is_the_guest(self):
+        guest = Guest()
+        bench, migration = guest.bench, Migration(guest)
+        guest.work(100)
+        guest.must(bench.start())
+        for round_number in range(4):
+            entries = migration.scan()
+            guest.work(5)
+            guest.must(bench.track())
+            migration.export(entries, 5)
+            guest.give_up(10 * round_number)
+            guest.must(bench.new_epoch())
+        guest.must(bench.pause())
+        entries = migration.check()
+        self.assertEqual((chirp.words(bench.session)[0], len(entries) > 0), (2, True))
+        self.assertEqual(bench.start_token()[0], 53)
+        guest.must(bench.new_epoch())
+        migration.export(entries, 0)
+        self.assertEqual(bench.start_token(), (chirp.DONE, 0))
+        self.assertEqual(migration.replayed(), guest.memory)
+        self.assertIn(17, migration.statuses)
+        self.assertEqual({sent[1] for sent in migration.sent}, {MIGRATE, CANCEL, REMIGRATE})
+
+
+class Refusals(unittest.TestCase):
+    """A refused call answers its code and leaves every byte."""
+
+    def setUp(self):
+        self.bench = Guest().bench
+        self.listed, self.contents = chirp.as_bytes([chirp.entry_for(0)] * 4), chirp.as_bytes([9] * 4)
+        self.assertEqual(self.bench.start(), chirp.DONE)
+
+    def refused(self, answer, call, *operands):
+        slices = [self.bench.session, self.bench.table] + [operand for operand in operands if isinstance(operand, bytearray)]
+        before = [bytes(data) for data in slices]
+        self.assertEqual(call(*operands), answer)
+        self.assertEqual([bytes(data) for data in slices], before)
+
+    def test_damaged_sessions_are_40(self):
+        sound = bytes(self.bench.session)
+        for place, value in [(0, 4), (1, 0), (2, 0), (3, 0), (4, 10), (5, PAGES + 1), (6, 2), (7, 2), (8, 2), (9, 1)]:
+            damaged = chirp.words(sound)
+            damaged[place] = value
+            self.bench.session[:] = chirp.as_bytes(damaged)
+            with self.subTest(word=place):
+                self.refused(40, self.bench.track)
+                self.refused((40, 0), self.bench.start_token)
+                self.refused((40, 0, 0, 0), self.bench.dscan, 0, PAGES, self.listed, ALL)
+
+    def test_ragged_lists_and_buffers_are_42(self):
+        ragged = self.listed[:-1]
+        self.refused((42, 0, 0, 0), self.bench.dscan, 0, PAGES, ragged, ALL)
+        self.refused((42, 0, 0, 0), self.bench.export, ragged, self.contents, 0, 0, chirp.info_for(0, 0), ALL)
+        self.refused((42, 0, 0, 0), self.bench.export, self.listed, self.contents[:-1], 0, 0, chirp.info_for(0, 0), ALL)
+
+    def test_codes_come_in_order(self):
+        self.refused((41, 0, 0, 0), self.bench.dcheck, self.listed[:-1], ALL)
+        self.refused(41, self.bench.start)
+        self.refused(42, self.bench.write, PAGES, 1)
+        self.refused(42, self.bench.write, (1 << 64) - 1, 1)
+        self.refused(45, self.bench.write, PAGES - 1, 1)
+        self.refused((44, 0, 0, 0), self.bench.export, self.listed, self.contents, 0, 1, chirp.info_for(0, 3), ALL)
+        self.refused((42, 0, 0, 0), self.bench.export, self.listed, self.contents, 0, 2, chirp.info_for(0, 3), ALL)
+
+    def test_tracking_comes_between_scan_and_export(self):
+        self.assertEqual(self.bench.dscan(0, 1, self.listed, ALL)[0], chirp.DONE)
+        code, _, errors, buffers = self.bench.export(self.listed[:8], self.contents[:8], 0, 0, chirp.info_for(0, 0), ALL)
+        self.assertEqual((code, errors, buffers), (chirp.DONE, 1, 2))
+
+
+if __name__ == "__main__":
+    result = unittest.TextTestRunner(stream=sys.stdout, verbosity=2).run(unittest.defaultTestLoader.loadTestsFromModule(sys.modules["__main__"]))
+    failed = len(result.failures) + len(result.errors) + (result.testsRun == 0)
+    print(f"{max(result.testsRun - failed, 0)} passed, {failed} failed")
+    sys.exit(1 if failed else 0)
