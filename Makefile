@@ -3,6 +3,7 @@
 
 # Proves and builds the library, and runs the driver on it.
 run:
+	.ci/need gcc gcc libc6-dev
 	rt staticlib chirpsteeple
 	mkdir -p target/c
 	gcc -std=c11 -O2 -Iinclude examples/driver.c target/staticlib/libchirpsteeple.a -o target/c/driver

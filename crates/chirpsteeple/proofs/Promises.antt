@@ -20,12 +20,13 @@ use Rattle.scan.specs.Scan.{withinTable, dscanOut, dscanCode, dcheckOut, dcheck
 use Rattle.export.specs.Export.{exportOut, exportCode, exportTests, badLength, otherBuffer}
 use Rattle.calls.specs.Promises.{refusal}
 use Rattle.calls.specs.declared.Call.{Call}
+use Rattle.calls.proofs.Promises.{refusal-keeps}
 use Rattle.calls.specs.declared.Call.the-variants.{Dscan, Dcheck, Export}
 use Rattle.wire.specs.Bytes.{wordsOf}
 use Rattle.wire.specs.Sessions.{sessionOf}
 use Rattle.wire.proofs.BytesLaws.{words-length}
 use Rattle.chirpsteeple.specs.Host.{Lent, lentList, lentAll, Left, isList, zeros, entriesOf, accepted, readable, played, hostOf}
-use Rattle.chirpsteeple.specs.Promises.{Untouched, RefusalWritesNothing, NoLayout, firstGroup, NoList}
+use Rattle.chirpsteeple.specs.Promises.{Untouched, codeAndPage, RefusalWritesNothing, NoLayout, firstGroup, NoList}
 use Rattle.chirpsteeple.proofs.LayoutLaws.{host-played}
 
 -- ---- refusals
@@ -34,12 +35,28 @@ played-keeps : (sound : Bool) (c : Call) (s : Session) (x : Lent) → refusal (p
 unfolding played
 played-keeps sound c s x r = record { session = rw r; table = rw r; list = rw r; buffer = rw r }
 
+played-answer : (sound : Bool) (c : Call) (s : Session) (x : Lent) → refusal (played sound c s x .answer .code) ≡ true → played sound c s x .answer ≡ codeAndPage (played sound c s x .answer .code) (played sound c s x .answer .page)
+unfolding played
+played-answer sound c s x r =
+    let k = refusal-keeps .all c s (wordsOf (x .table)) (entriesOf sound (x .list)) (entriesOf sound (x .buffer)) r in
+    rw (k .next, k .first, k .last, k .info, k .errors, k .buffers)
+
+played-page : (sound : Bool) (c : Call) (s : Session) (x : Lent) → eqb (played sound c s x .answer .code) codes.exportedDirtyPagesRemain ≡ false → eqb (played sound c s x .answer .code) codes.unexportedMemoryRemains ≡ false → played sound c s x .answer .page ≡ 0
+unfolding played
+played-page sound c s x = refusal-keeps .page c s (wordsOf (x .table)) (entriesOf sound (x .list)) (entriesOf sound (x .buffer))
+
 pub refusal-writes-nothing : RefusalWritesNothing
 unfolding hostOf
 refusal-writes-nothing = record {
   all = λ sound c x. either (λ (l : Left). refusal (l .answer .code) ≡ true → Untouched x l) (accepted c x)
       (λ e. played-keeps sound c _ x)
       (λ e r. record { session = refl; table = refl; list = refl; buffer = refl });
+  answer = λ sound c x. either (λ (l : Left). refusal (l .answer .code) ≡ true → l .answer ≡ codeAndPage (l .answer .code) (l .answer .page)) (accepted c x)
+      (λ e. played-answer sound c _ x)
+      (λ e r. refl);
+  page = λ sound c x. either (λ (l : Left). eqb (l .answer .code) codes.exportedDirtyPagesRemain ≡ false → eqb (l .answer .code) codes.unexportedMemoryRemains ≡ false → l .answer .page ≡ 0) (accepted c x)
+      (λ e. played-page sound c _ x)
+      (λ e f g. refl);
 }
 
 pub no-layout : NoLayout

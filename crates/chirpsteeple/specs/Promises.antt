@@ -3,6 +3,7 @@ use mathlib.Core.Path.{_≡_}
 use mathlib.Core.Bool.{Bool, true, false}
 use mathlib.Core.List.{List, [], _∷_}
 use Prim.Native.Nat.{ℕ, _/_, _<_}
+use lib.Dec.{eqb}
 use lib.ListN.{length}
 use Rattle.words.specs.Codes as codes
 use Rattle.refusals.specs.Refusals.{_gives_}
@@ -15,6 +16,7 @@ use Rattle.calls.specs.Promises.{refusal}
 use Rattle.calls.specs.declared.Call.{Call}
 use Rattle.wire.specs.Bytes.{wordsOf}
 use Rattle.wire.specs.Sessions.{sessionOf}
+use Rattle.chirpsteeple.specs.declared.plays.Numbers.{Numbers}
 use Rattle.chirpsteeple.specs.Host.{Lent, Left, accepted, readable, isList, codeAlone, hostOf, dscanLeft, dcheckLeft, exportLeft}
 
 -- every byte as it came
@@ -24,9 +26,15 @@ pub record Untouched (x : Lent) (l : Left) : Type 0 where
   pub list : l .list ≡ x .list
   pub buffer : l .buffer ≡ x .buffer
 
--- a refusal writes no byte
+-- the code, and a page; all other numbers 0
+abbrev pub codeAndPage : ℕ → ℕ → Numbers
+codeAndPage code page = record { code = code; page = page; next = 0; first = 0; last = 0; info = 0; errors = 0; buffers = 0 }
+
+-- a refusal writes no byte, and its answer is the code, and the page for 53 and 54
 pub record RefusalWritesNothing : Type 0 where
   pub all : (sound : Bool) (c : Call) (x : Lent) → refusal (hostOf sound c x .answer .code) ≡ true → Untouched x (hostOf sound c x)
+  pub answer : (sound : Bool) (c : Call) (x : Lent) → refusal (hostOf sound c x .answer .code) ≡ true → hostOf sound c x .answer ≡ codeAndPage (hostOf sound c x .answer .code) (hostOf sound c x .answer .page)
+  pub page : (sound : Bool) (c : Call) (x : Lent) → eqb (hostOf sound c x .answer .code) codes.exportedDirtyPagesRemain ≡ false → eqb (hostOf sound c x .answer .code) codes.unexportedMemoryRemains ≡ false → hostOf sound c x .answer .page ≡ 0
 
 -- bytes that fit no layout are 40
 pub record NoLayout : Type 0 where

@@ -22,6 +22,7 @@ use Rattle.session.proofs.FormedLaws.{every-hold, hold-every, Formed, formed-me
 use Rattle.wire.specs.Bytes.{Words}
 use Rattle.wire.specs.Sessions.{sessionLength, phaseOf, streamFits, streamsFit, fits, sessionOf, bitOf, runWords, streamThen, streamsFrom, sessionWords}
 use Rattle.wire.specs.declared.sessions.StreamWords.{StreamWords}
+use Rattle.wire.specs.Promises.{Word, RunNumbers, Numbers}
 
 -- ---- lists
 
@@ -189,24 +190,6 @@ layout-back w e f =
     ∙ sym (drop-elements 0 w sessionLength 0 e)
 
 -- ---- the words are words
-
--- below 2^64
-abbrev pub Word : ℕ → Type 0
-Word x = x < 0x10000000000000000
-
--- the numbers of a run are words
-abbrev pub RunNumbers : Run → Type 0
-RunNumbers AtRest = Unit
-RunNumbers (Interrupted next last errors pages) = Word next × Word last × Word errors × Word pages
-
--- and all of a session
-pub record Numbers (s : Session) : Type 0 where
-  pub pages : Word (s .pages)
-  pub tlb : Word (s .tlb)
-  pub epoch : Word (s .epoch)
-  pub created : Word (s .created)
-  pub place : Word (s .check .place)
-  pub runs : (i : ℕ) → RunNumbers (runOf s i)
 
 abbrev AllWords : List ℕ → Type 0
 AllWords [] = Unit
