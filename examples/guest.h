@@ -2,11 +2,7 @@
 #ifndef GUEST_H
 #define GUEST_H
 
-#include "words.h"
-
-#include <stdbool.h>
-#include <stdio.h>
-#include <stdlib.h>
+#include "must.h"
 
 enum { PAGES = 2000, WORKING_SET = 90, BLOCKED_AT_ONCE = 6 };
 
@@ -23,16 +19,6 @@ struct guest {
     size_t blocked_count;
     uint64_t random;
 };
-
-static inline void must(bool holds, const char *what, uint64_t code)
-{
-    if (holds)
-        return;
-    printf("%s: answered %u, %s\n", what, (unsigned)code, code_name(code));
-    exit(1);
-}
-
-static inline void must_be_done(uint64_t code, const char *what) { must(code == CHIRP_DONE, what, code); }
 
 /* A number below the bound (xorshift; the same in every run). */
 static inline uint64_t draw(struct guest *guest, uint64_t bound)

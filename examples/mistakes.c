@@ -5,28 +5,17 @@
  *
  * The exit status is 0 if the bench answered as is told here.
  */
-#include "words.h"
-
-#include <inttypes.h>
-#include <stdio.h>
-#include <stdlib.h>
+#include "must.h"
 
 enum { PAGES = 9, BUDGET = 1000 };
 
 struct bench {
     uint8_t session[CHIRP_SESSION_BYTES], table[PAGES * CHIRP_PAGE_BYTES];
     uint8_t list[PAGES * CHIRP_WORD_BYTES], buffer[PAGES * CHIRP_WORD_BYTES];
+    uint64_t destination[PAGES]; /* what was last sent of each page */
 };
 
 #define LIST(bench) (bench)->list, sizeof(bench)->list
-
-static void expect(const char *what, uint64_t got, uint64_t wanted)
-{
-    if (got == wanted)
-        return;
-    printf("%s: %" PRIu64 " and not %" PRIu64 "\n", what, got, wanted);
-    exit(1);
-}
 
 /* Says what a call answered, and ends if it is not what this text tells. */
 static void told(const char *call, uint64_t code, uint64_t wanted)
@@ -35,12 +24,20 @@ static void told(const char *call, uint64_t code, uint64_t wanted)
     expect(call, code, wanted);
 }
 
-static void silent(uint64_t code) { expect("a call that has to be done", code, CHIRP_DONE); }
+static void silent(uint64_t code) { must_be_done(code, "a call on the way"); }
 
+/* Exports the list's first entries, and hands on to the destination what was sent. */
 static chirp_export_answer export_entries(struct bench *bench, uint64_t entries)
 {
     size_t bytes = entries * CHIRP_WORD_BYTES;
-    return chirp_export(BENCH(bench), bench->list, bytes, bench->buffer, bytes, 0, 0, info_for(0, entries - 1), BUDGET);
+    chirp_export_answer answer = chirp_export(BENCH(bench), bench->list, bytes, bench->buffer, bytes, 0, 0, info_for(0, entries - 1), BUDGET);
+    silent(answer.code);
+    for (uint64_t i = 0; i < entries; i++) {
+        uint64_t entry = word_at(bench->list, i);
+        if (entry_status(entry) == CHIRP_STATUS_SUCCESS)
+            bench->destination[entry_page(entry)] = word_at(bench->buffer, i);
+    }
+    return answer;
 }
 
 static chirp_scan_answer scan(struct bench *bench) { return chirp_dscan(BENCH(bench), 0, PAGES, LIST(bench), BUDGET); }
@@ -48,6 +45,7 @@ static chirp_scan_answer scan(struct bench *bench) { return chirp_dscan(BENCH(be
 /* A guest with every page present, its migration begun; page i holds 100 + i. */
 static void begin(struct bench *bench)
 {
+    *bench = (struct bench){0};
     silent(chirp_new(BENCH(bench), 2));
     for (uint64_t page = 0; page < PAGES; page++) {
         silent(chirp_add(BENCH(bench), page));
@@ -62,7 +60,7 @@ static void first_round(struct bench *bench)
 {
     silent(scan(bench).code);
     silent(chirp_track(BENCH(bench)));
-    silent(export_entries(bench, PAGES).code);
+    expect("errors of the first round", export_entries(bench, PAGES).errors, 0);
     silent(chirp_new_epoch(BENCH(bench)));
 }
 
@@ -104,28 +102,53 @@ static void page_numbers_for_addresses(void)
     printf("  It names page %u. Lost would have been: pages 1 to %d, all that they hold.\n\n", (unsigned)token.page, PAGES - 1);
 }
 
-/* What a module that does not ask for tracking would have made of an export of the page: exported in this epoch, all else as it was. */
+/* What a module that does not ask for tracking would have made of an export of the page: sent, exported in this epoch, all else as it was. */
 static void let_through(struct bench *bench, uint64_t page)
 {
+    bench->destination[page] = mark_at(bench->table, page);
     uint64_t epoch = word_at(bench->session, CHIRP_SESSION_MIGRATION_EPOCH);
     uint64_t kept = record_at(bench->table, page) & ~(UINT64_C(0xffff) << 32 | 0xff);
     put_word(bench->table, 2 * page, epoch << 32 | kept | CHIRP_STATE_EXPORTED);
+}
+
+/* A processor that still holds the old translation writes to the page, and no Dirty bit tells. */
+static void unseen_write(struct bench *bench, uint64_t page, uint64_t mark)
+{
+    silent(chirp_write(BENCH(bench), page, mark));
+    expect("Dirty after a write through the old translation", record_at(bench->table, page) & DIRTY, 0);
+}
+
+/* How it goes on where the page was let through. */
+static void lost_unseen(struct bench *bench)
+{
+    let_through(bench, 3);
+    unseen_write(bench, 3, 501);
+    printf("  Had it let it go (here we write into a copy of the table what it would have written), %u would have been sent. Then a processor that\n"
+           "  still holds the old translation writes 501, and Dirty stays clear. The guest is paused:\n",
+           (unsigned)bench->destination[3]);
+    silent(chirp_pause(BENCH(bench)));
+    chirp_scan_answer check = chirp_dcheck(BENCH(bench), LIST(bench), BUDGET);
+    told("dcheck", check.code, CHIRP_CHECK_COMPLETE);
+    expect("first of an empty list", check.first, CHIRP_MAX_ENTRIES - 1);
+    told("start token", chirp_start_token(BENCH(bench)).code, CHIRP_DONE);
+    printf("  The check lists nothing, the token is granted, and the destination wakes with %u where the guest had %u.\n",
+           (unsigned)bench->destination[3], (unsigned)mark_at(bench->table, 3));
+    expect("sent", bench->destination[3], 500);
+    expect("the guest's", mark_at(bench->table, 3), 501);
 }
 
 static void copied_at_once(void)
 {
     struct bench bench;
     printf("2. Dirty cleared, and the page copied at once\n"
-           "  The pages have been sent once. Page 3, the payroll, is written again: 500, and the scan lists it.\n");
+           "  The pages have been sent once. Page 3, the payroll, is written again: 500. The scan lists it and clears Dirty, and the student exports\n"
+           "  it at once.\n");
     begin(&bench);
     first_round(&bench);
     silent(chirp_write(BENCH(&bench), 3, 500));
     silent(scan(&bench).code);
-    uint64_t copied = mark_at(bench.table, 3);
-    silent(chirp_write(BENCH(&bench), 3, 501));
-    printf("  The scan cleared Dirty, and the student copies %u. Then a processor that still holds the old translation writes 501, and Dirty is %s.\n",
-           (unsigned)copied, record_at(bench.table, 3) & DIRTY ? "set" : "still clear");
-    expect("Dirty", record_at(bench.table, 3) & DIRTY, 0);
+    expect("the page listed", word_at(bench.list, 0), entry_for(3) | CHIRP_HINT_EXPORTED_MODIFIED << 3);
+    expect("Dirty after the scan", record_at(bench.table, 3) & DIRTY, 0);
     struct bench careless = bench;
 
     chirp_export_answer answer = export_entries(&bench, 1);
@@ -134,22 +157,16 @@ static void copied_at_once(void)
     expect("status", status, CHIRP_STATUS_TLB_TRACKING_NOT_DONE);
     expect("errors", answer.errors, 1);
 
-    printf("  Had it let it go (here we write into a copy of the table what it would have written):\n");
-    let_through(&careless, 3);
-    silent(chirp_pause(BENCH(&careless)));
-    chirp_scan_answer check = chirp_dcheck(BENCH(&careless), LIST(&careless), BUDGET);
-    told("dcheck", check.code, CHIRP_CHECK_COMPLETE);
-    expect("first of an empty list", check.first, CHIRP_MAX_ENTRIES - 1);
-    told("start token", chirp_start_token(BENCH(&careless)).code, CHIRP_DONE);
-    printf("  No check finds the page, the token is granted, and the destination wakes with %u where the guest had %u.\n", (unsigned)copied,
-           (unsigned)mark_at(careless.table, 3));
-    expect("copied", copied, 500);
+    lost_unseen(&careless);
 
+    unseen_write(&bench, 3, 501);
     silent(chirp_track(BENCH(&bench)));
     put_word(bench.list, 0, entry_for(3));
-    silent(export_entries(&bench, 1).code);
-    printf("  With a track after the scan the old translation is gone, and the export sends %u.\n\n", (unsigned)word_at(bench.buffer, 0));
-    expect("sent", word_at(bench.buffer, 0), 501);
+    expect("errors", export_entries(&bench, 1).errors, 0);
+    printf("  On the bench the same write goes unseen too. But after a track the old translation is gone, and only now the page is let go: the export\n"
+           "  sends %u.\n\n",
+           (unsigned)bench.destination[3]);
+    expect("sent", bench.destination[3], 501);
 }
 
 static void paused_and_done(void)
@@ -173,9 +190,12 @@ static void paused_and_done(void)
     printf("  It names page %u. Lost would have been:\n", (unsigned)token.page);
     for (uint64_t i = 0; i <= check.last; i++) {
         uint64_t page = entry_page(word_at(bench.list, i));
-        printf("    page %u: the guest has %u, the destination %u\n", (unsigned)page, (unsigned)mark_at(bench.table, page), 100 + (unsigned)page);
+        printf("    page %u: the guest has %u, the destination %u\n", (unsigned)page, (unsigned)mark_at(bench.table, page),
+               (unsigned)bench.destination[page]);
     }
-    told("export", export_entries(&bench, check.last + 1).code, CHIRP_DONE);
+    chirp_export_answer answer = export_entries(&bench, check.last + 1);
+    told("export", answer.code, CHIRP_DONE);
+    expect("errors", answer.errors, 0);
     told("start token", chirp_start_token(BENCH(&bench)).code, CHIRP_DONE);
 }
 

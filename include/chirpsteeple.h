@@ -2,7 +2,8 @@
  * Chirpsteeple: a bench that plays the TDX module's export side to a migration driver.
  *
  * One guest of 1 to 4,096 private pages of 4 KiB; page i has byte address 4,096*i. The bench keeps nothing of its own: session, table, list and
- * buffer are bytes that the caller lends for the time of a call. All numbers in them are little-endian; a word is 8 bytes, at any alignment.
+ * buffer are bytes that the caller lends for the time of a call. All numbers in them are little-endian; a word is 8 bytes, at any alignment. A call
+ * takes less than 96 KiB of its thread's stack.
  *
  * A slice is a pointer and a length in bytes. No two slices of a call may overlap, and none may be null with a length other than 0: nothing can
  * test that. Every other operand may be anything and gets an answer.
@@ -95,8 +96,9 @@ enum { CHIRP_PHASE_IDLE = 0, CHIRP_PHASE_LIVE = 1, CHIRP_PHASE_BLACKOUT = 2, CHI
  *   word 1, the mark     one number that stands for the page's contents
  *
  * The stamp is the TLB epoch in which the page was blocked or last listed by a scan. Cached says that some processor may still hold the
- * translation: a write through it sets no Dirty bit, until a track. A record in another state than these twelve, or with any of the bits 15:10 and
- * 63:48 set, is strange: it is in none of these states, scans pass it, and no call but New changes it. No word in a table makes a call 40.
+ * translation: a write through it sets no Dirty bit, until a track or a pause. A record in another state than these twelve, or with any of the
+ * bits 15:10 and 63:48 set, is strange: it is in none of these states, scans pass it, and no call but New changes it. No word in a table makes a
+ * call 40.
  */
 enum {
     CHIRP_STATE_FREE = 0,
@@ -158,7 +160,7 @@ enum {
  */
 
 typedef struct { uint64_t code, page; } chirp_token_answer;                  /* page: for 53 and 54 */
-typedef struct { uint64_t code, next, first, last; } chirp_scan_answer;      /* next page; first and last entry written: 511 and 0 if none */
+typedef struct { uint64_t code, next, first, last; } chirp_scan_answer;      /* next page; first and last entry written */
 typedef struct { uint64_t code, info, errors, buffers; } chirp_export_answer;
 
 /* ---- Guest and memory calls ---- */
@@ -200,8 +202,8 @@ uint64_t chirp_unblock(uint8_t *session, size_t session_len, uint8_t *table, siz
 uint64_t chirp_remove(uint8_t *session, size_t session_len, uint8_t *table, size_t table_len, uint64_t page);
 
 /*
- * Tracking with all processors interrupted: the TLB epoch plus one, and Cached cleared on every page; all else stays. Idle and Live.
- * 40. 41. 56: TLB epoch 65,535. 0.
+ * Tracking with all processors interrupted: the TLB epoch plus one, and Cached cleared on every page that is not strange; all else stays.
+ * 40. 41: Blackout or Done. 56: TLB epoch 65,535. 0.
  */
 uint64_t chirp_track(uint8_t *session, size_t session_len, uint8_t *table, size_t table_len);
 
@@ -214,14 +216,16 @@ uint64_t chirp_track(uint8_t *session, size_t session_len, uint8_t *table, size_
 uint64_t chirp_start(uint8_t *session, size_t session_len, uint8_t *table, size_t table_len);
 
 /*
- * Live to Blackout: Cached cleared on every page; all else stays, the check's place too. It finishes nothing: DCHECK and token are still to come.
+ * Live to Blackout: Cached cleared on every page that is not strange; all else stays, the check's place too. It finishes nothing: DCHECK and token
+ * are still to come.
  * 40. 41: not Live. 48: some page in 1, 3, 26 or 31. 43: some stream interrupted. 0.
  */
 uint64_t chirp_pause(uint8_t *session, size_t session_len, uint8_t *table, size_t table_len);
 
 /*
- * Live or Blackout to Idle. 24 and 25 become 4; 29 and 30 become 2; 26 becomes 1; 31 becomes 3; 27 becomes 0; then every page's migration epoch is
- * 0, and its stamp 0 except in 1 and 3; marks, Dirty and Cached stay. Session: migration epoch 0, streams at rest, check reset; all else stays.
+ * Live or Blackout to Idle. 24 and 25 become 4; 29 and 30 become 2; 26 becomes 1; 31 becomes 3; 27 becomes 0; then of every page that is not strange
+ * the migration epoch is 0, and the stamp 0 except in 1 and 3; marks, Dirty and Cached stay. Session: migration epoch 0, streams at rest, check
+ * reset; all else stays.
  * 40. 41: Idle or Done. 0.
  */
 uint64_t chirp_abort(uint8_t *session, size_t session_len, uint8_t *table, size_t table_len);
@@ -233,7 +237,8 @@ uint64_t chirp_new_epoch(uint8_t *session, size_t session_len, uint8_t *table, s
 uint64_t chirp_reset(uint8_t *session, size_t session_len, uint8_t *table, size_t table_len);
 
 /*
- * Blackout to Done, if what was sent is the guest; nothing but the phase changes. In Done every call but New is 41.
+ * Blackout to Done, if every page is free (0), or exported and clean (24 or 29 without Dirty); nothing but the phase changes.
+ * In Done every call but New is 41.
  * 40. 41: not Blackout. 43: some stream interrupted. 52: check not complete. 53: a page in 25, 26, 27, 30, 31, or in 24 or 29 with Dirty.
  * 54: a page in 1 to 4, or strange. 0. The answer's page is the lowest one that 53 or 54 speaks of.
  */
@@ -247,7 +252,8 @@ chirp_token_answer chirp_start_token(uint8_t *session, size_t session_len, uint8
  *   hint 0: 2, 4.  hint 1: 25, 30, and 24, 29 with Dirty.  hint 2: 26, 31 (DSCAN alone).  hint 3: 27.
  * A listed 24 becomes 25, a listed 29 becomes 30; a listed page that is then in 2, 4, 25 or 30 gets Dirty 0 and stamp = TLB epoch. Nothing else in
  * the table changes: Cached stays, so track before you export. Every page visited costs 1 of the budget, listed or not.
- * In the answer, next is a page of the table, also for a scan that began at another page than 0.
+ * In the answer, next counts from page 0 of the table, also for a scan that began at another page; past its last page it is the page count. First
+ * and last are 0 and the written count less 1; 511 and 0 if nothing was written. Look at the code first: in a refusal first and last are both 0.
  */
 
 /*
@@ -259,7 +265,8 @@ chirp_scan_answer chirp_dscan(uint8_t *session, size_t session_len, uint8_t *tab
                               uint64_t first, uint64_t count, uint8_t *list, size_t list_len, uint64_t budget);
 
 /*
- * DCHECK, in Blackout, from the check's place to the table's end; the place goes on to the answer's next, and nothing else in the session changes.
+ * DCHECK, in Blackout, from the check's place to the table's end; the place goes on to the answer's next, and nothing in the session but the check
+ * changes.
  * 40. 41: not Blackout. 42: list not in whole words, or above 512. 50: check complete or failed (chirp_reset).
  * Then at each page: 3 past the end, and the check is complete; 1 if the budget is spent; 51 at a page in 1, 3, 26 or 31, and the check has failed
  * (what was listed before it stays listed); 2 if the page is to be listed and there is no room (it is not touched then).
@@ -272,9 +279,9 @@ chirp_scan_answer chirp_dcheck(uint8_t *session, size_t session_len, uint8_t *ta
 /*
  * Export the entries FIRST to LAST of the list on a stream, in Live or Blackout. Resume is 0 for a new call, 1 for a resumed one. Each entry
  * costs 1 of the budget.
- * 40. 41: Idle or Done. 42: stream not usable; list not in whole words, empty or above 512; buffer of another length; resume above 1; FORMAT or
- * bits 54:52 not 0; LAST not within the list. 44: resume on a stream at rest, or with another FIRST or LAST than the stream's; a new call on an
- * interrupted stream. 42: a new call with FIRST not 0. Then 0 if all entries are done, 1 if the budget is spent first.
+ * 40. 41: Idle or Done. 42: stream not usable; list not in whole words, empty or above 512; buffer not in whole words, or of another length than the
+ * list; resume above 1; FORMAT or bits 54:52 not 0; LAST not within the list. 44: resume on a stream at rest, or with another FIRST or LAST than the
+ * stream's; a new call on an interrupted stream. 42: a new call with FIRST not 0. Then 0 if all entries are done, 1 if the budget is spent first.
  *
  * An entry with status 0: 4 becomes 24 and 2 becomes 29 (MIGRATE); 25 becomes 24 and 30 becomes 29 (REMIGRATE); 26 becomes 1, 31 becomes 3, 27
  * becomes 0 (CANCEL). The page's migration epoch becomes the session's; nothing else in the table changes. Any other status changes no page.

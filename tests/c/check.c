@@ -68,6 +68,7 @@ int run_tests(const struct test *tests, unsigned count)
 {
     struct sigaction action = {.sa_handler = faulted};
     unsigned passed = 0;
+    setvbuf(stdout, NULL, _IOLBF, 0); /* what was said is kept if a test ends the program */
     sigaction(SIGSEGV, &action, NULL);
     sigaction(SIGBUS, &action, NULL);
     for (unsigned i = 0; i < count; i++)

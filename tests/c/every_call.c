@@ -1,6 +1,8 @@
 /* Every call once and done, on slices that end at the last byte of their memory. */
 #include "tests.h"
 
+#include <pthread.h>
+
 enum { SMALL = 2, LARGE = CHIRP_MAX_PAGES };
 
 static uint64_t entries_of(const struct bench *bench) { return bench->list.length / CHIRP_WORD_BYTES; }
@@ -108,4 +110,24 @@ void every_call_before_a_guard_page(void)
 {
     for (unsigned i = 0; i < TABLES; i++)
         every_call(mapped_bench(tables[i], list_for(tables[i])));
+}
+
+static void *on_the_thread(void *unused)
+{
+    every_call_on_the_heap();
+    return unused;
+}
+
+/* What docs/HOST.md says of the stack. */
+void every_call_on_a_stack_of_96_KiB(void)
+{
+    pthread_attr_t attributes;
+    pthread_t thread;
+    EQUAL((uint64_t)pthread_attr_init(&attributes), 0);
+    EQUAL((uint64_t)pthread_attr_setstacksize(&attributes, 96 * 1024), 0);
+    int failure = pthread_create(&thread, &attributes, on_the_thread, NULL);
+    EQUAL((uint64_t)failure, 0);
+    if (!failure)
+        EQUAL((uint64_t)pthread_join(thread, NULL), 0);
+    pthread_attr_destroy(&attributes);
 }

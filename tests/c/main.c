@@ -45,6 +45,7 @@ int main(void)
         TEST(refused_calls_on_read_only_memory),
         TEST(one_page_calls_touch_their_page_alone),
         TEST(a_page_beyond_the_table_touches_nothing),
+        TEST(every_call_on_a_stack_of_96_KiB), /* the last, since a stack that is too small ends the program */
     };
     return run_tests(tests, sizeof tests / sizeof *tests);
 }

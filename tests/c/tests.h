@@ -2,7 +2,7 @@
 #ifndef TESTS_H
 #define TESTS_H
 
-#include "bench.h"
+#include "harness.h"
 #include "check.h"
 
 /* Calls and checks its code. */
@@ -17,6 +17,7 @@ void fill(struct bench *bench);
 void every_call_on_the_heap(void);
 void every_call_at_odd_addresses(void);
 void every_call_before_a_guard_page(void);
+void every_call_on_a_stack_of_96_KiB(void);
 
 void null_pointers_with_length_0(void);
 void lengths_of_sessions_and_tables(void);

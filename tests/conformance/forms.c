@@ -1,5 +1,5 @@
 /* Whether a session and a table are taken, as each of the calls sees it. */
-#include "bench.h"
+#include "harness.h"
 
 enum { TAKES_PAGE = 1, TAKES_LIST = 2 };
 

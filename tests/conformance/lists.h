@@ -1,8 +1,8 @@
-/* What tests of scans and exports are written with beside bench.h: list words by their fields, and scans and entries with what should come of them. */
+/* What tests of scans and exports are written with beside harness.h: list words by their fields, and scans and entries with what should come of them. */
 #ifndef LISTS_H
 #define LISTS_H
 
-#include "bench.h"
+#include "harness.h"
 
 /* A list entry by its fields; the reserved ones are named after their lowest bits. ENTRY(.page = 5, .operation = 1) is entry(5). */
 typedef struct {

@@ -3,7 +3,7 @@
  * Each test runs in a process of its own, so that one in which the library traps or does not end fails like any other.
  */
 #define _POSIX_C_SOURCE 200809L
-#include "bench.h"
+#include "harness.h"
 #include "rows.h"
 
 #include <stdio.h>

@@ -2,7 +2,7 @@
 #ifndef STATES_H
 #define STATES_H
 
-#include "bench.h"
+#include "harness.h"
 
 /* The twelve states that the base uses. */
 #define BASE 0, 1, 2, 3, 4, 24, 25, 26, 27, 29, 30, 31

@@ -1,4 +1,4 @@
-#include "bench.h"
+#include "harness.h"
 
 #include <inttypes.h>
 #include <stdio.h>

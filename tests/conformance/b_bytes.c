@@ -1,5 +1,5 @@
 /* The bench: bytes, as a C host lends them. */
-#include "bench.h"
+#include "harness.h"
 
 #include <string.h>
 

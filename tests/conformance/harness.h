@@ -1,6 +1,7 @@
 /*
- * What a test of the conformance suite is written with. The rules of the bench are in bench_*.c, a test or more for each, in the chapters that rows.c
- * lists: read in that order they describe the bench. Numbers of codes, states and statuses are those of include/chirpsteeple.h.
+ * What a test of the conformance suite is written with. The rules of the bench, a test or more for each, are in the files whose names begin with the
+ * letter of a chapter; read in the order in which rows.c lists the chapters they describe the bench. Numbers of codes, states and statuses are those
+ * of include/chirpsteeple.h.
  *
  * A guest holds the four slices that the calls are lent, each allocated to its last byte, and beside each what the next call should leave in it.
  * What a test sets (set, PAGE ..) is set in both; what it expects (expect, EXPECT_PAGE ..) only in the second. A call is then one line:
@@ -12,8 +13,8 @@
  * PASSES and ANSWERS compare every byte of all four slices with what was expected, so what a test does not mention must stay as it was.
  * RUNS is for a step on the way: it looks at the code alone (of a refusal at everything).
  */
-#ifndef BENCH_H
-#define BENCH_H
+#ifndef HARNESS_H
+#define HARNESS_H
 
 #include <chirpsteeple.h>
 #include <stddef.h>

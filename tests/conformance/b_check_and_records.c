@@ -1,5 +1,5 @@
 /* The bench: the session's check, and what a table may hold. */
-#include "bench.h"
+#include "harness.h"
 
 static guest *checked(uint64_t phase, uint64_t place_word, uint64_t complete, uint64_t failed)
 {

@@ -1,5 +1,5 @@
 #define _GNU_SOURCE
-#include "bench.h"
+#include "harness.h"
 
 #include <stdio.h>
 #include <stdlib.h>
@@ -12,6 +12,7 @@ const char *const call_names[CALLS] = {
     "new", "write", "add", "accept", "block", "unblock", "remove", "track", "start", "pause", "abort", "new epoch", "reset", "start token", "dscan",
     "dcheck", "export"};
 
+/* Memory that is there, or the end: without it no test would say anything. */
 static void *or_end(void *memory)
 {
     if (memory == NULL || memory == MAP_FAILED) {
@@ -19,6 +20,12 @@ static void *or_end(void *memory)
         exit(2);
     }
     return memory;
+}
+
+static void protect(uint8_t *memory, size_t length, int protection)
+{
+    if (mprotect(memory, length, protection) != 0)
+        or_end(NULL);
 }
 
 struct slice heap_slice(size_t length, size_t offset)
@@ -33,14 +40,14 @@ struct slice mapped_slice(size_t length)
 {
     size_t usable = (length + OS_PAGE - 1) / OS_PAGE * OS_PAGE;
     uint8_t *memory = or_end(mmap(NULL, usable + OS_PAGE, PROT_READ | PROT_WRITE, MAP_PRIVATE | MAP_ANONYMOUS, -1, 0));
-    mprotect(memory + usable, OS_PAGE, PROT_NONE);
+    protect(memory + usable, OS_PAGE, PROT_NONE);
     return (struct slice){.bytes = memory + usable - length, .length = length, .memory = memory, .mapped = usable + OS_PAGE};
 }
 
 void make_read_only(const struct slice *slice)
 {
-    if (slice->mapped > OS_PAGE && mprotect(slice->memory, slice->mapped - OS_PAGE, PROT_READ) != 0)
-        or_end(NULL);
+    if (slice->mapped > OS_PAGE)
+        protect(slice->memory, slice->mapped - OS_PAGE, PROT_READ);
 }
 
 void free_slice(struct slice *slice)

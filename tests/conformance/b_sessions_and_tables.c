@@ -1,5 +1,5 @@
 /* The bench: which sessions and tables there are. */
-#include "bench.h"
+#include "harness.h"
 
 TEST(B1_an_interrupted_export_counts_nothing,
      "Where the draft ABI text is silent, vague or says otherwise, the bench's rules decide: an interrupted export tells 0 errors and 0 buffers.")

@@ -1,6 +1,6 @@
 /* A bench whose slices end at the last byte of their memory, and every call on it by name. */
-#ifndef BENCH_H
-#define BENCH_H
+#ifndef HARNESS_H
+#define HARNESS_H
 
 #include "chirpsteeple.h"
 #include "words.h"

@@ -196,13 +196,16 @@ TEST(N24_words_are_written_in_page_order, "Words are written from index 0 in pag
     }
 }
 
-TEST(N25_the_next_page_counts_from_the_tables_start, "The next page of a scan is a page of the table, wherever its part begins.")
+TEST(N25_the_next_page_counts_from_the_tables_start,
+     "The next page of a scan counts from page 0 of the table, wherever its part begins; past the table's last page it is the page count.")
 {
     guest *g = guest_in(LIVE, 20);
     lists_of(g, 1);
     SCANS(g, DSCAN, .first = 10, .count = 5, .budget = ALL, .next = 15);
     SCANS(g, DSCAN, .first = 10, .count = 5, .budget = 2, .code = 1, .next = 12);
     SCANS(g, DSCAN, .first = 10, .count = 5, .budget = 0, .code = 1, .next = 10);
+    SCANS(g, DSCAN, .first = 15, .count = 5, .budget = ALL, .next = 20);
+    SCANS(guest_for(DCHECK, 20), DCHECK, .budget = ALL, .code = 3, .next = 20);
     PAGE(g, 11, .state = 4);
     PAGE(g, 13, .state = 4);
     expect_listed(g, 0, 11);
