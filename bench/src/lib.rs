@@ -1,4 +1,3 @@
 //! What the library is measured against: its calls as straightforward Rust, written from document 01 on the bytes of the C interface.
 
-pub mod answers;
 pub mod straightforward;

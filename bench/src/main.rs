@@ -1,12 +1,12 @@
 //! Measures the library and straightforward Rust side by side, and prints a line for each operation: its name, the library's nanoseconds, Rust's.
 
 mod guests;
-mod library;
 mod measure;
 
 use chirpsteeple_bench::straightforward;
 use chirpsteeple_tests::bench::codes::*;
 use guests::*;
+use host_tests::interface;
 use measure::Work;
 
 // What is linked behind this comes 16 bytes later: bench/run says what for.
@@ -16,12 +16,12 @@ std::arch::global_asm!(".section .text.shift, \"axR\", @progbits", ".skip 16", "
 /// The same call of the library and of straightforward Rust: by its name and its numbers where it is lent session and table, else written out, with the name that stands for either.
 macro_rules! both {
     ($call:ident($step:pat_param => $($number:expr),*)) => {
-        both!(calls, |guest, $step| calls::$call(&mut guest.session, &mut guest.table, $($number),*))
+        both!(calls, |guest, $step| calls::$call(&mut guest.session[..], &mut guest.table[..], $($number),*))
     };
     ($calls:ident, |$guest:ident, $step:pat_param| $body:expr) => {
         (
             {
-                use library as $calls;
+                use interface as $calls;
                 |$guest: &mut Guest, $step: u64| $body
             },
             {
@@ -117,25 +117,25 @@ fn lists(pages: Pages) {
         let mut next = 0;
         std::array::from_fn::<_, LISTS, _>(|call| {
             let list = part(&mut guest.list, call as u64);
-            let answer = calls::dscan(&mut guest.session, &mut guest.table, next, PAGES - next, list, PAGES);
+            let answer = calls::dscan(&mut guest.session[..], &mut guest.table[..], next, PAGES - next, list, PAGES);
             next = answer.next;
             answer
         })
     });
     let dcheck_all = both!(calls, |guest, _| {
         std::array::from_fn::<_, LISTS, _>(|call| {
-            calls::dcheck(&mut guest.session, &mut guest.table, part(&mut guest.list, call as u64), PAGES)
+            calls::dcheck(&mut guest.session[..], &mut guest.table[..], part(&mut guest.list, call as u64), PAGES)
         })
     });
     let dscan = both!(calls, |guest, _| {
-        calls::dscan(&mut guest.session, &mut guest.table, 0, PAGES, part(&mut guest.list, 0), PAGES)
+        calls::dscan(&mut guest.session[..], &mut guest.table[..], 0, PAGES, part(&mut guest.list, 0), PAGES)
     });
     let dcheck = both!(calls, |guest, _| {
-        calls::dcheck(&mut guest.session, &mut guest.table, part(&mut guest.list, 0), PAGES)
+        calls::dcheck(&mut guest.session[..], &mut guest.table[..], part(&mut guest.list, 0), PAGES)
     });
     let export = both!(calls, |guest, call| {
         let (list, buffer) = (part(&mut guest.list, call), part(&mut guest.buffer, call));
-        calls::export(&mut guest.session, &mut guest.table, list, buffer, 0, 0, 511 << 55, 512)
+        calls::export(&mut guest.session[..], &mut guest.table[..], list, buffer, 0, 0, 511 << 55, 512)
     });
     let exported = pages.guest(LIVE, &[4, 25].map(record)).with_entries();
     let work = |name, phase, records: &[u64], code| pages.work(name, pages.guest(phase, records).with_lists(), code);

@@ -1,9 +1,8 @@
 //! Times of the library and of straightforward Rust on the same guests, in turns.
 
 use crate::guests::Guest;
-use chirpsteeple_bench::answers::{ExportAnswer, ScanAnswer, TokenAnswer};
+use host_tests::interface::{ExportAnswer, ScanAnswer, TokenAnswer};
 use std::fmt::Debug;
-use std::hint::black_box;
 use std::time::{Duration, Instant};
 
 /// So long is each operation measured in a round.
@@ -74,16 +73,22 @@ impl Work {
     }
 
     /// The time of all calls once, on guests as they were given.
-    fn sample<A>(&self, guests: &mut [Guest], call: &impl Fn(&mut Guest, u64) -> A) -> Duration {
+    fn sample<A: Answer>(&self, guests: &mut [Guest], call: &impl Fn(&mut Guest, u64) -> A) -> Duration {
         for (guest, given) in guests.iter_mut().zip(&self.given) {
             guest.restore(given);
         }
         let begun = Instant::now();
         for guest in guests {
             for step in 0..self.steps {
-                black_box(call(guest, step));
+                keep(call(guest, step).code());
             }
         }
         begun.elapsed()
     }
+}
+
+/// Makes the compiler believe that the code is read, at no cost.
+fn keep(code: u64) {
+    // SAFETY: this is no instruction, but a comment.
+    unsafe { std::arch::asm!("# {0}", in(reg) code, options(nostack, preserves_flags)) };
 }

@@ -3,9 +3,9 @@
 use super::page::*;
 use super::session::{Phase, Session, Stream};
 use super::{set_word, word};
-use crate::answers::ExportAnswer;
 use chirpsteeple_tests::bench::codes::*;
 use chirpsteeple_tests::bench::export::{operation, status};
+use host_tests::interface::ExportAnswer;
 
 /// The bits of `word` from `low` on, `width` of them.
 fn field(word: u64, low: u32, width: u32) -> u64 {

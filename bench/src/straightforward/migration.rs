@@ -3,8 +3,8 @@
 use super::page::*;
 use super::session::{at, reset_check, rest_streams, Phase, Session, LAST_EPOCH};
 use super::{code, set_word};
-use crate::answers::TokenAnswer;
 use chirpsteeple_tests::bench::codes::*;
+use host_tests::interface::TokenAnswer;
 
 /// What start and abort leave of a record: no migration epoch, and a stamp in 1 and 3 alone.
 fn outside_epochs(state: u8, record: u64) -> u64 {

@@ -3,8 +3,8 @@
 use super::page::*;
 use super::session::{at, reset_check, Phase, Session};
 use super::{code, set_word, word};
-use crate::answers::ScanAnswer;
 use chirpsteeple_tests::bench::codes::*;
+use host_tests::interface::ScanAnswer;
 
 fn refused(code: u64) -> ScanAnswer {
     ScanAnswer { code, ..ScanAnswer::default() }
@@ -79,13 +79,20 @@ impl Scan {
                 return ran(INTERRUPTED, page, listed);
             }
             let record = word(bytes, 0);
-            let Some(state) = state(record) else { continue };
+            let state = match state(record) {
+                Some(state) => state,
+                None => continue,
+            };
             if self.stops_at_blocked && matches!(state, 1 | 3 | 26 | 31) {
                 return ran(MEM_SCAN_FAILED_BLOCKED_RANGE, page, listed);
             }
-            let Some(hint) = hint(state, record) else { continue };
-            let Some(entry) = list.get_mut(8 * listed..8 * listed + 8) else {
-                return ran(LIST_FULL, page, listed);
+            let hint = match hint(state, record) {
+                Some(hint) => hint,
+                None => continue,
+            };
+            let entry = match list.get_mut(8 * listed..8 * listed + 8) {
+                Some(entry) => entry,
+                None => return ran(LIST_FULL, page, listed),
             };
             let pending = matches!(state, 2 | 29 | 30 | 31) as u64;
             set_word(entry, 0, 1 << 52 | page << 12 | hint << 3 | pending << 2);

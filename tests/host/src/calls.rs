@@ -2,7 +2,7 @@
 
 use chirpsteeple_tests::bench::session::Session;
 use chirpsteeple_tests::bench::Answer;
-use chirpsteeple_tests::host::{self, bytes, Export};
+use chirpsteeple_tests::host::{self, bytes};
 use std::fmt;
 
 /// A call by its word in `histories::CALLS`, and its numbers in the order of the C function.
@@ -62,6 +62,11 @@ impl Lent {
     pub fn slices(&self) -> [(&'static str, &[u8]); 4] {
         [("session", &self.session), ("table", &self.table), ("list", &self.list), ("buffer", &self.buffer)]
     }
+
+    /// The slices in the same order, for a call to change.
+    pub fn slices_mut(&mut self) -> [&mut [u8]; 4] {
+        [&mut self.session, &mut self.table, &mut self.list, &mut self.buffer]
+    }
 }
 
 /// Whoever answers calls: the library, the implementation that it is compared with, or one that is wrong on purpose.
@@ -69,32 +74,42 @@ pub trait Bench {
     fn call(&mut self, call: Call, lent: &mut Lent) -> Answer;
 }
 
+/// Makes a call by the functions of a module, which have the C functions' names and arguments, and answers what they answer.
+#[macro_export]
+macro_rules! made_by {
+    ($functions:ident, $call:expr, $slices:expr) => {{
+        let [session, table, list, buffer] = $slices;
+        let [a, b, c, d] = $call.numbers;
+        match $call.word {
+            "new" => $functions::new(session, table, a).into(),
+            "write" => $functions::write(session, table, a, b).into(),
+            "add" => $functions::add(session, table, a).into(),
+            "accept" => $functions::accept(session, table, a).into(),
+            "block" => $functions::block(session, table, a).into(),
+            "unblock" => $functions::unblock(session, table, a).into(),
+            "remove" => $functions::remove(session, table, a).into(),
+            "track" => $functions::track(session, table).into(),
+            "start" => $functions::start(session, table).into(),
+            "pause" => $functions::pause(session, table).into(),
+            "abort" => $functions::abort(session, table).into(),
+            "newepoch" => $functions::new_epoch(session, table).into(),
+            "dscan" => $functions::dscan(session, table, a, b, list, c).into(),
+            "dcheck" => $functions::dcheck(session, table, list, a).into(),
+            "reset" => $functions::reset(session, table).into(),
+            "export" => $functions::export(session, table, list, buffer, a, b, c, d).into(),
+            "token" => $functions::start_token(session, table).into(),
+            word => panic!("{word} is no call"),
+        }
+    }};
+}
+
 /// The implementation from document 01.
 pub struct FromDocument;
 
 impl Bench for FromDocument {
+    // Its answers need no conversion.
+    #[allow(clippy::useless_conversion)]
     fn call(&mut self, call: Call, lent: &mut Lent) -> Answer {
-        let Lent { session, table, list, buffer } = lent;
-        let [a, b, c, d] = call.numbers;
-        match call.word {
-            "new" => host::new(session, table, a),
-            "write" => host::write(session, table, a, b),
-            "add" => host::add(session, table, a),
-            "accept" => host::accept(session, table, a),
-            "block" => host::block(session, table, a),
-            "unblock" => host::unblock(session, table, a),
-            "remove" => host::remove(session, table, a),
-            "track" => host::track(session, table),
-            "start" => host::start(session, table),
-            "pause" => host::pause(session, table),
-            "abort" => host::abort(session, table),
-            "newepoch" => host::new_epoch(session, table),
-            "dscan" => host::dscan(session, table, a, b, list, c),
-            "dcheck" => host::dcheck(session, table, list, a),
-            "reset" => host::reset(session, table),
-            "export" => host::export(session, table, list, buffer, Export { stream: a, resume: b, info: c, budget: d }),
-            "token" => host::start_token(session, table),
-            word => panic!("{word} is no call"),
-        }
+        made_by!(host, call, lent.slices_mut())
     }
 }

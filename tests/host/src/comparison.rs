@@ -7,6 +7,20 @@ use chirpsteeple_tests::host::bytes;
 use chirpsteeple_tests::met::Met;
 use std::fmt;
 
+/// Compares a bench on the calls that `calls` makes, and panics where it differs. Says what was met, and answers what was met less than `times` times.
+pub fn same(
+    bench: &mut dyn Bench,
+    times: usize,
+    calls: impl FnOnce(&mut Comparison) -> Result<(), Difference>,
+) -> Vec<String> {
+    let mut comparison = Comparison::new(bench);
+    if let Err(difference) = calls(&mut comparison) {
+        panic!("{difference}");
+    }
+    println!("{}", comparison.report());
+    comparison.faults(times)
+}
+
 pub struct Comparison<'a> {
     compared: &'a mut dyn Bench,
     /// What the calls follow from; it is told with a difference, and not used.
@@ -91,15 +105,10 @@ fn differing(lent: [&Lent; 3], answer: &Answer, other: &Answer) -> Vec<String> {
 }
 
 fn first_differing(name: &str, slices: [&[u8]; 3]) -> String {
-    let mut words = slices.map(|bytes| bytes.chunks(bytes::WORD).map(number));
-    let mut index = 0;
-    loop {
-        let [before, expected, found] = words.each_mut().map(|words| words.next().unwrap());
-        if expected != found {
-            return format!("  {name}: word {index} was {before:#x}, found {found:#x}, expected {expected:#x}\n");
-        }
-        index += 1;
-    }
+    let [before, expected, found] = slices.map(|bytes| bytes.chunks(bytes::WORD).map(number).collect::<Vec<u64>>());
+    let index = (0..expected.len()).find(|&index| expected[index] != found[index]).unwrap();
+    let [before, expected, found] = [before[index], expected[index], found[index]];
+    format!("  {name}: word {index} was {before:#x}, found {found:#x}, expected {expected:#x}\n")
 }
 
 /// The number in the bytes of a word, or in what there is of one.

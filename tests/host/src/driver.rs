@@ -176,7 +176,7 @@ impl Driver<'_, '_> {
 
     fn blocked(&self) -> Vec<u64> {
         let table = bytes::words(&self.lent.table).unwrap();
-        let blocked = |record: Option<Record>| record.is_some_and(|record| matches!(record.state, 1 | 3 | 26 | 31));
+        let blocked = |record: Option<Record>| matches!(record, Some(Record { state: 1 | 3 | 26 | 31, .. }));
         (0..).zip(records(&table)).filter(|(_, record)| blocked(*record)).map(|(page, _)| page).collect()
     }
 

@@ -7,6 +7,7 @@ pub mod comparison;
 pub mod damage;
 pub mod driver;
 pub mod handed;
+pub mod interface;
 pub mod library;
 pub mod lines;
 pub mod lists;

@@ -21,7 +21,10 @@ struct Host {
 pub fn play(comparison: &mut Comparison, random: &mut Random, lines: &str) -> Result<(), Difference> {
     let mut host = Host { session: [0; SESSION_WORDS], spaces: Spaces::default() };
     for line in lines.lines() {
-        let Some((word, Some(numbers))) = parts(line) else { continue };
+        let (word, numbers) = match parts(line) {
+            Some((word, Some(numbers))) => (word, numbers),
+            _ => continue,
+        };
         let [a, b, c, d, _] = numbers;
         match CALLS.iter().find(|call| **call == word) {
             Some(call) => host.call(comparison, random, Call::new(call, &[a, b, c, d]))?,

@@ -30,8 +30,9 @@ impl Reached {
 
     /// A call on what was lent before it, and its answer.
     pub fn call(&mut self, call: Call, lent: &Lent, answer: &Answer) {
-        let Some(session) = bytes::session(&lent.session).filter(|session| !session.malformed()) else {
-            return;
+        let session = match bytes::session(&lent.session) {
+            Some(session) if !session.malformed() => session,
+            _ => return,
         };
         let done = answer.code < MALFORMED;
         let interrupted = session.streams.iter().filter(|&&stream| stream != Stream::AtRest).count();

@@ -7,6 +7,9 @@ use crate::lines::play;
 use chirpsteeple_tests::histories::random_scenario;
 use chirpsteeple_tests::random::Random;
 
+/// As many seeds meet all that can be met.
+pub const SEEDS: u64 = 200;
+
 const LINES: usize = 2_000;
 const MIGRATIONS: usize = 6;
 const HANDED: usize = 100;

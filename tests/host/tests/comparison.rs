@@ -2,33 +2,24 @@
 
 use chirpsteeple_tests::cases::{every_bound_of_an_export, every_bound_of_the_session, every_kind_of_record};
 use chirpsteeple_tests::random::Random;
-use host_tests::comparison::{Comparison, Difference};
+use host_tests::comparison::{same, Comparison, Difference};
 use host_tests::damage::{every_length, every_word_of_a_session};
 use host_tests::library::Library;
 use host_tests::lines::play;
 use host_tests::lists::lists_of_every_length;
-use host_tests::run::run;
+use host_tests::run::{run, SEEDS};
 
-const SEEDS: u64 = 200;
-
-/// Compares the library on the calls that `calls` makes, and says what it met.
-fn same(calls: impl FnOnce(&mut Comparison) -> Result<(), Difference>) -> Vec<String> {
-    let library = &mut Library::default();
-    let mut comparison = Comparison::new(library);
-    if let Err(difference) = calls(&mut comparison) {
-        panic!("{difference}");
-    }
-    println!("{}", comparison.report());
-    comparison.faults(10)
+fn library_same(calls: impl FnOnce(&mut Comparison) -> Result<(), Difference>) -> Vec<String> {
+    same(&mut Library::default(), 10, calls)
 }
 
 fn same_on_lines(lines: &str) {
-    same(|comparison| play(comparison, &mut Random::new(0), lines));
+    library_same(|comparison| play(comparison, &mut Random::new(0), lines));
 }
 
 #[test]
 fn random_histories_and_every_code_of_every_call_among_them() {
-    let faults = same(|comparison| (0..SEEDS).try_for_each(|seed| run(comparison, seed)));
+    let faults = library_same(|comparison| (0..SEEDS).try_for_each(|seed| run(comparison, seed)));
     assert_eq!(faults, Vec::<String>::new());
 }
 
@@ -49,15 +40,15 @@ fn both_sides_of_every_bound_of_an_export() {
 
 #[test]
 fn every_word_of_a_session_damaged() {
-    same(every_word_of_a_session);
+    library_same(every_word_of_a_session);
 }
 
 #[test]
 fn slices_of_every_length_about_a_bound() {
-    same(every_length);
+    library_same(every_length);
 }
 
 #[test]
 fn lists_of_every_length_filled_and_exported() {
-    same(lists_of_every_length);
+    library_same(lists_of_every_length);
 }

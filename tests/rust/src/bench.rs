@@ -43,13 +43,20 @@ impl Answer {
     }
 }
 
+/// The answer of a call that gives a code alone.
+impl From<u64> for Answer {
+    fn from(code: u64) -> Self {
+        Answer::plain(code)
+    }
+}
+
 /// What 40 asks of a table whatever the session says.
 fn legal_length(table: &[u64]) -> bool {
     !table.is_empty() && table.len() % 2 == 0 && table.len() <= MOST_WORDS
 }
 
 /// 40 and then 41, with which every call but New begins; `phases` are those that the call comes in.
-fn refusal(session: &Session, table: &[u64], phases: &[Phase]) -> Option<u64> {
+pub(crate) fn refusal(session: &Session, table: &[u64], phases: &[Phase]) -> Option<u64> {
     if !legal_length(table) || table.len() as u64 / 2 != session.pages || session.malformed() {
         Some(MALFORMED)
     } else if !phases.contains(&session.phase) {

@@ -2,23 +2,14 @@
 
 pub mod bytes;
 
-use crate::bench::codes::{MALFORMED, MEM_SCAN_FAILED_BLOCKED_RANGE};
-use crate::bench::export::Operands;
-use crate::bench::session::Session;
-use crate::bench::{memory, scans, session_calls, Answer, MOST_ENTRIES};
+use crate::bench::codes::{MALFORMED, MEM_SCAN_FAILED_BLOCKED_RANGE, OPERAND_INVALID};
+use crate::bench::export::{self, Operands};
+use crate::bench::session::{Phase, Session};
+use crate::bench::{memory, refusal, scans, session_calls, Answer};
 
 /// 51 is no refusal, and nor is what stands below 40.
 fn refused(code: u64) -> bool {
     code >= MALFORMED && code != MEM_SCAN_FAILED_BLOCKED_RANGE
-}
-
-/// The words of a list or a buffer. Bytes that are no words stand for a list that is too long, which every call that takes one refuses with 42 in the same place.
-fn lent(bytes: &[u8]) -> Vec<u64> {
-    bytes::words(bytes).unwrap_or_else(too_long)
-}
-
-fn too_long() -> Vec<u64> {
-    vec![0; MOST_ENTRIES + 1]
 }
 
 /// A call on session and table as `given`; None stands for bytes that fit no layout.
@@ -28,8 +19,9 @@ fn perform(
     table: &mut [u8],
     call: impl FnOnce(&mut Session, &mut [u64]) -> Answer,
 ) -> Answer {
-    let (Some(mut read), Some(mut words)) = (given, bytes::words(table)) else {
-        return Answer::plain(MALFORMED);
+    let (mut read, mut words) = match (given, bytes::words(table)) {
+        (Some(read), Some(words)) => (read, words),
+        _ => return Answer::plain(MALFORMED),
     };
     let answer = call(&mut read, &mut words);
     if !refused(answer.code) {
@@ -102,51 +94,62 @@ pub fn start_token(session: &mut [u8], table: &mut [u8]) -> Answer {
     on_bytes(session, table, session_calls::start_token)
 }
 
+/// A call that comes in these phases and is lent a list, or a list and a buffer. The order is 40, 41, 42: so what is not in whole words is refused after the first two, and before anything that the call itself asks further.
+fn on_lists<const LISTS: usize>(
+    session: &mut [u8],
+    table: &mut [u8],
+    lists: [&mut [u8]; LISTS],
+    phases: &[Phase],
+    call: impl FnOnce(&mut Session, &mut [u64], &mut [Vec<u64>; LISTS]) -> Answer,
+) -> Answer {
+    on_bytes(session, table, |session, table| {
+        if let Some(code) = refusal(session, table, phases) {
+            return Answer::plain(code);
+        }
+        let mut read: [Vec<u64>; LISTS] = std::array::from_fn(|_| Vec::new());
+        for (words, list) in read.iter_mut().zip(&lists) {
+            *words = match bytes::words(list) {
+                Some(words) => words,
+                None => return Answer::plain(OPERAND_INVALID),
+            };
+        }
+        let answer = call(session, table, &mut read);
+        if !refused(answer.code) {
+            lists.into_iter().zip(read).for_each(|(list, words)| list.copy_from_slice(&bytes::bytes(&words)));
+        }
+        answer
+    })
+}
+
 pub fn dscan(session: &mut [u8], table: &mut [u8], first: u64, count: u64, list: &mut [u8], budget: u64) -> Answer {
-    let mut words = lent(list);
-    let answer =
-        on_bytes(session, table, |session, table| scans::dscan(session, table, &mut words, first, count, budget));
-    give_back(answer, list, &words);
-    answer
+    on_lists(session, table, [list], &scans::DSCAN, |session, table, [list]| {
+        scans::dscan(session, table, list, first, count, budget)
+    })
 }
 
 pub fn dcheck(session: &mut [u8], table: &mut [u8], list: &mut [u8], budget: u64) -> Answer {
-    let mut words = lent(list);
-    let answer = on_bytes(session, table, |session, table| scans::dcheck(session, table, &mut words, budget));
-    give_back(answer, list, &words);
-    answer
+    on_lists(session, table, [list], &scans::DCHECK, |session, table, [list]| {
+        scans::dcheck(session, table, list, budget)
+    })
 }
 
-/// The numbers that the C function `chirp_export` is given.
-#[derive(Clone, Copy, Debug)]
-pub struct Export {
-    pub stream: u64,
-    pub resume: u64,
-    pub info: u64,
-    pub budget: u64,
-}
-
+#[allow(clippy::too_many_arguments)]
 pub fn export(
     session: &mut [u8],
     table: &mut [u8],
     list: &mut [u8],
     buffer: &mut [u8],
-    Export { stream, resume, info, budget }: Export,
+    stream: u64,
+    resume: u64,
+    info: u64,
+    budget: u64,
 ) -> Answer {
-    // Above 1 is 42 with the first group of 42 tests, of which the list's length is one.
-    let mut entries = if resume > 1 { too_long() } else { lent(list) };
-    let mut contents = lent(buffer);
-    let operands = Operands { stream, resume: resume == 1, info, budget };
-    let answer = on_bytes(session, table, |session, table| {
-        crate::bench::export::export(session, table, &mut entries, &mut contents, operands)
-    });
-    give_back(answer, list, &entries);
-    give_back(answer, buffer, &contents);
-    answer
-}
-
-fn give_back(answer: Answer, lent: &mut [u8], words: &[u64]) {
-    if !refused(answer.code) {
-        lent.copy_from_slice(&bytes::bytes(words));
-    }
+    on_lists(session, table, [list, buffer], &export::PHASES, |session, table, [list, buffer]| {
+        // With the first group of 42, so before 44.
+        if resume > 1 {
+            return Answer::plain(OPERAND_INVALID);
+        }
+        let operands = Operands { stream, resume: resume == 1, info, budget };
+        export::export(session, table, list, buffer, operands)
+    })
 }

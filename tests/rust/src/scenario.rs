@@ -32,8 +32,9 @@ impl Scenario {
     /// Does what the line says, and returns what that prints, if anything.
     pub fn line(&mut self, line: &str) -> Option<String> {
         let (word, numbers) = parts(line)?;
-        let Some(numbers) = numbers else {
-            return Some(UNREADABLE.to_owned());
+        let numbers = match numbers {
+            Some(numbers) => numbers,
+            None => return Some(UNREADABLE.to_owned()),
         };
         if self.hand(word, numbers) {
             return None;

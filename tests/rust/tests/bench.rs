@@ -74,13 +74,12 @@ fn random_scenarios_meet_every_code_of_every_call_and_every_outcome_of_an_entry(
     for seed in 0..SEEDS {
         let mut scenario = Scenario::default();
         for line in random_scenario(seed, LENGTH).lines() {
-            if !scenario.line(line).is_some_and(|printed| printed.starts_with("code ")) {
-                continue;
-            }
-            let Some((word, Some(numbers))) = parts(line) else { continue };
-            met.call(word, &scenario.answer);
-            if word == "export" {
-                met.export(numbers[2], &scenario.answer, &scenario.spaces.list.words);
+            let answered = scenario.line(line).map_or(false, |printed| printed.starts_with("code "));
+            if let (true, Some((word, Some(numbers)))) = (answered, parts(line)) {
+                met.call(word, &scenario.answer);
+                if word == "export" {
+                    met.export(numbers[2], &scenario.answer, &scenario.spaces.list.words);
+                }
             }
         }
     }

@@ -3,10 +3,8 @@
 use chirpsteeple_tests::bench::session::{Check, Phase, Session, Stream};
 use chirpsteeple_tests::histories::any::well_formed;
 use chirpsteeple_tests::host::bytes::{bytes, session, session_bytes, words};
-use chirpsteeple_tests::host::{dcheck, export, new, pause, start, Export};
+use chirpsteeple_tests::host::{dcheck, dscan, export, new, pause, start};
 use chirpsteeple_tests::random::Random;
-
-const EXPORT: Export = Export { stream: 0, resume: 0, info: 0, budget: 9 };
 
 /// A session of one page, stream 0 at rest or not.
 fn one_page(phase: Phase, check: Check, stream: Stream) -> Vec<u8> {
@@ -86,13 +84,15 @@ fn a_table_has_from_1_to_4096_pages_of_16_bytes() {
     }
 }
 
+/// An interrupted stream; in Idle it makes the session malformed.
+const INTERRUPTED: Stream = Stream::Interrupted { next: 0, last: 0, errors: 0, data: 0 };
+
 /// What an export of stream 0 answers with a list and a buffer of so many bytes; what it refuses it leaves.
 fn code_of_export(phase: Phase, stream: Stream, resume: u64, list: usize, buffer: usize) -> u64 {
     let before = one_page(phase, Check::RESET, stream);
     let (mut session, mut table) = (before.clone(), vec![0; 16]);
     let (mut list, mut buffer) = (vec![0xee; list], vec![0xee; buffer]);
-    let operands = Export { resume, ..EXPORT };
-    let code = export(&mut session, &mut table, &mut list, &mut buffer, operands).code;
+    let code = export(&mut session, &mut table, &mut list, &mut buffer, 0, resume, 0, 9).code;
     if code >= 40 {
         assert!(session == before && list.iter().chain(&buffer).all(|&byte| byte == 0xee));
     }
@@ -100,23 +100,38 @@ fn code_of_export(phase: Phase, stream: Stream, resume: u64, list: usize, buffer
 }
 
 #[test]
-fn ragged_lists_and_buffers_are_42_after_41_and_before_44() {
-    let interrupted = Stream::Interrupted { next: 0, last: 0, errors: 0, data: 0 };
+fn ragged_lists_and_buffers_are_42_after_40_and_41_and_before_44() {
     for (list, buffer) in [(12, 12), (12, 8), (8, 12), (9, 8), (7, 7), (4_097, 4_096)] {
+        assert_eq!(code_of_export(Phase::Idle, INTERRUPTED, 0, list, buffer), 40);
         assert_eq!(code_of_export(Phase::Idle, Stream::AtRest, 0, list, buffer), 41);
         assert_eq!(code_of_export(Phase::Live, Stream::AtRest, 1, list, buffer), 42);
-        assert_eq!(code_of_export(Phase::Live, interrupted, 0, list, buffer), 42);
+        assert_eq!(code_of_export(Phase::Live, INTERRUPTED, 0, list, buffer), 42);
     }
     assert_eq!(code_of_export(Phase::Live, Stream::AtRest, 1, 8, 8), 44);
-    assert_eq!(code_of_export(Phase::Live, interrupted, 0, 8, 8), 44);
-    assert_eq!(code_of_export(Phase::Live, interrupted, 1, 8, 8), 0);
+    assert_eq!(code_of_export(Phase::Live, INTERRUPTED, 0, 8, 8), 44);
+    assert_eq!(code_of_export(Phase::Live, INTERRUPTED, 1, 8, 8), 0);
 }
 
 #[test]
-fn resume_above_1_is_42_after_41_and_before_44() {
+fn resume_above_1_is_42_after_40_and_41_and_before_44() {
     for resume in [2, 1 << 32, u64::MAX] {
+        assert_eq!(code_of_export(Phase::Idle, INTERRUPTED, resume, 8, 8), 40);
         assert_eq!(code_of_export(Phase::Idle, Stream::AtRest, resume, 8, 8), 41);
         assert_eq!(code_of_export(Phase::Live, Stream::AtRest, resume, 8, 8), 42);
+        assert_eq!(code_of_export(Phase::Live, INTERRUPTED, resume, 8, 8), 42);
+    }
+}
+
+#[test]
+fn a_ragged_list_of_a_scan_is_42_after_40_and_41() {
+    for (phase, stream, length, code) in [
+        (Phase::Idle, INTERRUPTED, 9, 40),
+        (Phase::Blackout, Stream::AtRest, 9, 41),
+        (Phase::Live, Stream::AtRest, 9, 42),
+        (Phase::Live, Stream::AtRest, 8, 0),
+    ] {
+        let mut session = one_page(phase, Check::RESET, stream);
+        assert_eq!(dscan(&mut session, &mut [0; 16], 0, 1, &mut vec![0; length], 9).code, code);
     }
 }
 

@@ -112,11 +112,13 @@ impl Driver<'_, '_> {
     pub(super) fn go_on(&mut self) -> Result<(), Difference> {
         let from = self.random.below(8);
         let interrupted = (from..from + 8).map(|index| index % 8).find(|&index| self.running[index as usize].is_some());
-        let Some(stream) = interrupted else {
-            return Ok(());
-        };
-        let Running { info, list, buffer } = self.running[stream as usize].take().unwrap();
-        (self.lent.list, self.lent.buffer) = (list, buffer);
-        self.export(stream, 1, info)
+        match interrupted {
+            Some(stream) => {
+                let Running { info, list, buffer } = self.running[stream as usize].take().unwrap();
+                (self.lent.list, self.lent.buffer) = (list, buffer);
+                self.export(stream, 1, info)
+            }
+            None => Ok(()),
+        }
     }
 }

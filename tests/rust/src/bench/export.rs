@@ -26,6 +26,9 @@ pub mod operation {
     pub const REMIGRATE: u64 = 3;
 }
 
+/// The phases that it comes in.
+pub const PHASES: [Phase; 2] = [Phase::Live, Phase::Blackout];
+
 /// The numbers that export is given.
 #[derive(Clone, Copy)]
 pub struct Operands {
@@ -43,7 +46,7 @@ pub fn export(
     buffer: &mut [u64],
     operands: Operands,
 ) -> Answer {
-    if let Some(code) = refusal(session, table, &[Phase::Live, Phase::Blackout]) {
+    if let Some(code) = refusal(session, table, &PHASES) {
         return Answer::plain(code);
     }
     if operand_invalid(session, list, buffer, operands) {

@@ -7,6 +7,10 @@ use super::{refusal, Answer, MOST_ENTRIES};
 use crate::words::ENTRY;
 use std::ops::Range;
 
+/// The phases that each scan comes in.
+pub const DSCAN: [Phase; 1] = [Phase::Live];
+pub const DCHECK: [Phase; 1] = [Phase::Blackout];
+
 pub fn dscan(
     session: &mut Session,
     table: &mut [u64],
@@ -15,7 +19,7 @@ pub fn dscan(
     count: u64,
     budget: u64,
 ) -> Answer {
-    if let Some(code) = refusal(session, table, &[Phase::Live]) {
+    if let Some(code) = refusal(session, table, &DSCAN) {
         return Answer::plain(code);
     }
     let within = first < session.pages && (1..=session.pages - first).contains(&count);
@@ -27,7 +31,7 @@ pub fn dscan(
 }
 
 pub fn dcheck(session: &mut Session, table: &mut [u64], list: &mut [u64], budget: u64) -> Answer {
-    if let Some(code) = refusal(session, table, &[Phase::Blackout]) {
+    if let Some(code) = refusal(session, table, &DCHECK) {
         return Answer::plain(code);
     }
     if list.len() > MOST_ENTRIES {
@@ -74,11 +78,12 @@ impl Scan {
             if page - self.pages.start == budget {
                 return ran(INTERRUPTED, page, listed);
             }
-            if self.stops_at_blocked && record.is_some_and(blocked) {
+            if self.stops_at_blocked && record.map_or(false, blocked) {
                 return ran(MEM_SCAN_FAILED_BLOCKED_RANGE, page, listed);
             }
-            let Some((record, hint)) = record.and_then(|record| Some((record, hint(record)?))) else {
-                continue;
+            let (record, hint) = match record.and_then(|record| Some((record, hint(record)?))) {
+                Some(hinted) => hinted,
+                None => continue,
             };
             if listed == list.len() {
                 return ran(LIST_FULL, page, listed);
