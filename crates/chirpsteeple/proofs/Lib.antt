@@ -3,3 +3,4 @@ pub mod ListLaws
 pub mod PageLaws
 pub mod Promises
 pub mod TablesLaws
+pub mod SweepLaws

@@ -1,15 +1,14 @@
 -- Lists and buffers: what a length that passed its test is known to be, and what bytes that failed it are taken for.
 use mathlib.Core.Path.{_≡_, refl}
 use mathlib.Core.Bool.{Bool, true, false, _&&_}
-use mathlib.Core.List.{[]}
 use Prim.Native.Nat.{ℕ, _*_, _/_, _%_, _≤_}
 use native.Mathlib.Omega.{arith}
 use lib.Dec.{eqb, leb}
 use lib.ListN.{replicate}
 use borrow.Author.Tests.{eqb-true, leb-true}
 use Rattle.refusals.proofs.Laws.{and-left, and-right}
-use Rattle.wire.specs.Bytes.{wordsOf}
-use Rattle.chirpsteeple.specs.Host.{isList, zeros, entryCount, entriesOf}
+use Rattle.chirpsteeple.specs.Host.{isList, zeros}
+use Rattle.chirpsteeple.specs.Inside.{entryCount}
 
 pub list-whole : (sound : Bool) (len : ℕ) → (sound && isList len) ≡ true → len ≡ 8 * (len / 8)
 list-whole sound len e =
@@ -31,8 +30,3 @@ count-none sound len e = rw e
 pub zeros-are : (n : ℕ) → replicate n 0 ≡ zeros n
 unfolding zeros
 zeros-are n = refl
-
--- a call that is lent no list has none
-pub no-entries : entriesOf true [] ≡ []
-unfolding wordsOf
-no-entries = refl

@@ -17,7 +17,8 @@ use Rattle.wire.specs.Bytes.{wordsOf, Bytes}
 use Rattle.wire.specs.Sessions.{sessionOf}
 use Rattle.wire.specs.Tables.{putPage}
 use Rattle.wire.proofs.BytesLaws.{words-length, page-bytes}
-use Rattle.chirpsteeple.specs.Host.{Left, lent, codeAlone, leaving, readable, onePage}
+use Rattle.chirpsteeple.specs.Host.{Left, lent, codeAlone, leaving, readable}
+use Rattle.chirpsteeple.specs.Inside.{onePage}
 use Rattle.chirpsteeple.proofs.LayoutLaws.{readable-means, table-whole, table-kept, session-kept}
 
 -- the turn on the words that the bytes are

@@ -15,7 +15,8 @@ use Rattle.calls.specs.declared.Call.the-variants.{StartToken}
 use Rattle.wire.specs.Bytes.{wordsOf, bytesOf, Bytes}
 use Rattle.wire.specs.Sessions.{sessionOf, sessionWords}
 use Rattle.wire.proofs.BytesLaws.{bytes-back}
-use Rattle.chirpsteeple.specs.Host.{lent, readable, played, hostOf, callAlone, aloneOut}
+use Rattle.chirpsteeple.specs.Host.{lent, readable, played, hostOf}
+use Rattle.chirpsteeple.specs.Inside.{callAlone, aloneOut}
 use Rattle.chirpsteeple.specs.declared.tables.Alone.{Alone}
 use Rattle.chirpsteeple.specs.declared.tables.Alone.the-variants as alone
 use Rattle.chirpsteeple.proofs.LayoutLaws.{readable-means, table-kept, host-played}
@@ -35,7 +36,7 @@ alone-reads alone.NewEpoch = refl
 alone-reads alone.Reset = refl
 
 -- bytes that are the same either way
-either-kept : (b : Bool) {x y : List ℕ} → y ≡ x → x ≡ cond b x y
+pub either-kept : (b : Bool) {x y : List ℕ} → y ≡ x → x ≡ cond b x y
 either-kept true e = refl
 either-kept false e = sym e
 

@@ -5,14 +5,10 @@ use Prim.Native.Nat.{ℕ, _+_, _*_, _/_, _%_}
 use lib.Dec.{eqb, leb}
 use lib.ListN.{length, replicate}
 use Rattle.words.specs.Codes as codes
-use Rattle.table.specs.Table.{legal, mostPages}
+use Rattle.table.specs.Table.{legal}
 use Rattle.session.specs.Formed.{mostEntries}
 use Rattle.session.specs.declared.Session.{Session}
-use Rattle.session.specs.Outcome.{Outcome}
-use Rattle.memory.specs.Memory.{onPage}
-use Rattle.migration.specs.Migration.{newEpochOut, resetOut}
-use Rattle.page.specs.declared.moves.Move.{Move}
-use Rattle.calls.specs.Calls.{Effect, effect, effectOf}
+use Rattle.calls.specs.Calls.{Effect, effectOf}
 use Rattle.calls.specs.Promises.{refusal, isNew}
 use Rattle.calls.specs.declared.Call.{Call}
 use Rattle.calls.specs.declared.Call.the-variants.{New, Write, Add, Accept, Block, Unblock, Remove, Track, Start, Pause, Abort, NewEpoch, Reset, StartToken, Dscan, Dcheck, Export}
@@ -23,8 +19,6 @@ use Rattle.chirpsteeple.specs.declared.ChirpTokenAnswer.{ChirpTokenAnswe
 use Rattle.chirpsteeple.specs.declared.ChirpScanAnswer.{ChirpScanAnswer}
 use Rattle.chirpsteeple.specs.declared.ChirpExportAnswer.{ChirpExportAnswer}
 use Rattle.chirpsteeple.specs.declared.plays.Numbers.{Numbers}
-use Rattle.chirpsteeple.specs.declared.tables.Alone.{Alone}
-use Rattle.chirpsteeple.specs.declared.tables.Alone.the-variants as alone
 
 -- what a caller lends, in bytes; a call that takes no list or no buffer is lent none
 pub record Lent : Type 0 where
@@ -56,10 +50,6 @@ pub record Left : Type 0 where
 abbrev pub sessionBytes : ℕ
 sessionBytes = 8 * sessionLength
 
--- the words of the largest table
-abbrev pub mostWords : ℕ
-mostWords = 2 * mostPages
-
 -- 16 bytes a page, 1 to 4,096 pages
 abbrev pub isTable : ℕ → Bool
 isTable len = eqb (len % 8) 0 && legal (len / 8)
@@ -79,15 +69,12 @@ sessionRead c s = sessionOf (cond (isNew c) (replicate sessionLength 0) (wordsOf
 abbrev pub isList : ℕ → Bool
 isList len = eqb (len % 8) 0 && leb len (8 * mostEntries)
 
--- bytes that are no list, or that stand beside an operand that is none (`sound` is false), are taken for a list of one word too many: each call that takes a
--- list or a buffer refuses it with 42 in its place of the order
 -- n zeros, not written out
 unfoldable pub zeros : ℕ → List ℕ
 zeros n = replicate n 0
 
-abbrev pub entryCount : Bool → ℕ → ℕ
-entryCount sound len = cond (sound && isList len) (len / 8) (mostEntries + 1)
-
+-- bytes that are no list, or that stand beside an operand that is none (`sound` is false), are taken for a list of one word too many: each call that takes a
+-- list refuses it with 42 in its place of the order, and a buffer of 513 is none for a list of at most 512
 abbrev pub entriesOf : Bool → List ℕ → List ℕ
 entriesOf sound b = cond (sound && isList (length b)) (wordsOf b) (zeros (mostEntries + 1))
 
@@ -143,22 +130,6 @@ played sound c s x =
 -- 40 where session or table fit no layout
 unfoldable pub hostOf : Bool → Call → Lent → Left
 hostOf sound c x = cond (accepted c x) (played sound c (sessionRead c (x .session)) x) (refused codes.malformed x)
-
--- a call on one page, for any of them
-unfoldable pub onePage : Move → List ℕ → List ℕ → ℕ → Left
-onePage m s t page =
-    cond (readable s (length t))
-    (leaving true (effect (onPage m (sessionOf (wordsOf s)) (wordsOf t) page) [] []) (lent s t))
-    (refused codes.malformed (lent s t))
-
--- the two calls on the session alone
-abbrev pub callAlone : Alone → Call
-callAlone alone.NewEpoch = NewEpoch
-callAlone alone.Reset = Reset
-
-abbrev pub aloneOut : Alone → Session → List ℕ → Outcome
-aloneOut alone.NewEpoch s t = newEpochOut s t
-aloneOut alone.Reset s t = resetOut s t
 
 -- ---- the seventeen functions, on session and table
 

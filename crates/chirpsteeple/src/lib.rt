@@ -4,6 +4,7 @@ ghost use Rattle.chirpsteeple.specs.Host.{Left, newLeft, writeLeft, addL
 ghost use Rattle.chirpsteeple.specs.Host.{trackLeft, startLeft, pauseLeft, abortLeft, newEpochLeft, resetLeft};
 ghost use Rattle.chirpsteeple.specs.Host.{tokenLeft, dscanLeft, dcheckLeft, exportLeft, tokenAnswer, scanAnswer, exportAnswer};
 use crate::plays::Numbers;
+use crate::sweeps::Sweeping;
 use crate::tables::Alone;
 use calls::Call;
 use page::moves::Move;
@@ -12,6 +13,7 @@ mod lists;
 mod pages;
 mod plays;
 mod reads;
+mod sweeps;
 mod tables;
 
 // What the start token answers; the page is that in the way of 53 and 54.
@@ -45,7 +47,7 @@ pub extern "C" fn chirp_new(session: &mut [u8], table: &mut [u8], streams: u64) 
     ensures { λ _. ⌜ now (session .exit) ≡ newLeft (now (session .entry)) (now (table .entry)) streams .session ⌝ }
     ensures { λ _. ⌜ now (table .exit) ≡ newLeft (now (session .entry)) (now (table .entry)) streams .table ⌝ }
 {
-    plays::new(session, table, streams)
+    sweeps::new(session, table, streams)
 }
 
 #[no_mangle]
@@ -108,7 +110,7 @@ pub extern "C" fn chirp_track(session: &mut [u8], table: &mut [u8]) -> u64
     ensures { λ _. ⌜ now (session .exit) ≡ trackLeft (now (session .entry)) (now (table .entry)) .session ⌝ }
     ensures { λ _. ⌜ now (table .exit) ≡ trackLeft (now (session .entry)) (now (table .entry)) .table ⌝ }
 {
-    plays::on_table(Call::Track, session, table)
+    sweeps::on_table(Sweeping::Track, session, table)
 }
 
 // ---- the session calls
@@ -119,7 +121,7 @@ pub extern "C" fn chirp_start(session: &mut [u8], table: &mut [u8]) -> u64
     ensures { λ _. ⌜ now (session .exit) ≡ startLeft (now (session .entry)) (now (table .entry)) .session ⌝ }
     ensures { λ _. ⌜ now (table .exit) ≡ startLeft (now (session .entry)) (now (table .entry)) .table ⌝ }
 {
-    plays::on_table(Call::Start, session, table)
+    sweeps::on_table(Sweeping::Start, session, table)
 }
 
 #[no_mangle]
@@ -128,7 +130,7 @@ pub extern "C" fn chirp_pause(session: &mut [u8], table: &mut [u8]) -> u64
     ensures { λ _. ⌜ now (session .exit) ≡ pauseLeft (now (session .entry)) (now (table .entry)) .session ⌝ }
     ensures { λ _. ⌜ now (table .exit) ≡ pauseLeft (now (session .entry)) (now (table .entry)) .table ⌝ }
 {
-    plays::on_table(Call::Pause, session, table)
+    sweeps::on_table(Sweeping::Pause, session, table)
 }
 
 #[no_mangle]
@@ -137,7 +139,7 @@ pub extern "C" fn chirp_abort(session: &mut [u8], table: &mut [u8]) -> u64
     ensures { λ _. ⌜ now (session .exit) ≡ abortLeft (now (session .entry)) (now (table .entry)) .session ⌝ }
     ensures { λ _. ⌜ now (table .exit) ≡ abortLeft (now (session .entry)) (now (table .entry)) .table ⌝ }
 {
-    plays::on_table(Call::Abort, session, table)
+    sweeps::on_table(Sweeping::Abort, session, table)
 }
 
 #[no_mangle]

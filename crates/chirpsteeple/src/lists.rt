@@ -1,10 +1,12 @@
 // Calls that take a list, or a list and a buffer.
 ghost use mathlib.Core.Path.{_≡_};
 ghost use mathlib.Core.Bool.{true, false};
-ghost use Prim.Native.Nat.{_/_, _%_};
+ghost use Prim.Native.Nat.{_+_, _/_, _%_};
 ghost use lib.ListN.{length};
+ghost use Rattle.session.specs.Formed.{mostEntries};
 ghost use Rattle.calls.specs.Promises.{isNew};
-ghost use Rattle.chirpsteeple.specs.Host.{Lent, lentList, lentAll, Left, mostWords, sessionBytes, isTable, entryCount, played, hostOf};
+ghost use Rattle.chirpsteeple.specs.Host.{Lent, lentList, lentAll, Left, sessionBytes, isTable, played, hostOf};
+ghost use Rattle.chirpsteeple.specs.Inside.{mostWords, entryCount};
 use crate::plays;
 use crate::plays::Numbers;
 use crate::reads;
@@ -56,7 +58,7 @@ fn play_in(
     listed: &mut [u64],
     sent: &mut [u64],
 ) -> Numbers
-    requires { ⌜ (length (now session) ≡ sessionBytes) × (isTable (length (now table)) ≡ true) × (length (now room) ≡ mostWords) × (length (now listed) ≡ 513) × (length (now sent) ≡ 513) ⌝ }
+    requires { ⌜ (length (now session) ≡ sessionBytes) × (isTable (length (now table)) ≡ true) × (length (now room) ≡ mostWords) × (length (now listed) ≡ mostEntries + 1) × (length (now sent) ≡ mostEntries + 1) ⌝ }
     ensures { λ r. ⌜ r ≡ played sound call s (lentAll (now (session .entry)) (now (table .entry)) (now (list .entry)) (now (buffer .entry))) .answer ⌝ }
     ensures { λ _. ⌜ now (session .exit) ≡ played sound call s (lentAll (now (session .entry)) (now (table .entry)) (now (list .entry)) (now (buffer .entry))) .session ⌝ }
     ensures { λ _. ⌜ now (table .exit) ≡ played sound call s (lentAll (now (session .entry)) (now (table .entry)) (now (list .entry)) (now (buffer .entry))) .table ⌝ }
@@ -97,8 +99,8 @@ fn play_lists(
     ensures { λ _. ⌜ now (buffer .exit) ≡ played sound call s (lentAll (now (session .entry)) (now (table .entry)) (now (list .entry)) (now (buffer .entry))) .buffer ⌝ }
 {
     let mut room = [0u64; plays::MOST_WORDS];
-    let mut listed = [0u64; 513];
-    let mut sent = [0u64; 513];
+    let mut listed = [0u64; reads::MOST_TAKEN];
+    let mut sent = [0u64; reads::MOST_TAKEN];
     play_in(
         sound,
         call,

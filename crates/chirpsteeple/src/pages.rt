@@ -1,6 +1,7 @@
 // Calls on one page: its sixteen bytes and the session's are read, and its sixteen written.
 ghost use mathlib.Core.Path.{_≡_};
-ghost use Rattle.chirpsteeple.specs.Host.{Left, onePage};
+ghost use Rattle.chirpsteeple.specs.Host.{Left};
+ghost use Rattle.chirpsteeple.specs.Inside.{onePage};
 use crate::reads;
 use page::moves::Move;
 use wire::sessions;

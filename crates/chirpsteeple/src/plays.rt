@@ -1,20 +1,18 @@
 // A call on lent bytes: read, made by the engine, and written back unless it refused.
 ghost use mathlib.Core.Path.{_≡_};
-ghost use mathlib.Core.Bool.{true, false, cond};
+ghost use mathlib.Core.Bool.{cond};
 ghost use Prim.Native.Nat.{_/_, _%_};
 ghost use lib.ListN.{length};
 ghost use Rattle.calls.specs.Calls.{effectOf};
-ghost use Rattle.calls.specs.Promises.{refusal, isNew};
+ghost use Rattle.calls.specs.Promises.{refusal};
 ghost use Rattle.wire.specs.Bytes.{wordsOf, bytesOf};
 ghost use Rattle.wire.specs.Sessions.{sessionWords};
-ghost use Rattle.chirpsteeple.specs.Host.{Lent, lent, Left, mostWords, sessionBytes, isTable, codeAlone, numbersOf, unless, played, hostOf};
-use crate::reads;
+ghost use Rattle.chirpsteeple.specs.Host.{sessionBytes, codeAlone, numbersOf, unless};
 use calls::Call;
 use calls::Returned;
 use session::Session;
 use wire::bytes;
 use wire::sessions;
-use words::codes;
 
 // The words of the largest table.
 pub const MOST_WORDS: usize = 2 * table::MOST_PAGES;
@@ -114,84 +112,4 @@ pub fn play(
     put_session(session, next);
     bytes::encode(&words[..], table);
     returned
-}
-
-// A call that takes no list, in room for any table.
-fn play_in(
-    call: Call,
-    s: Session,
-    session: &mut [u8],
-    table: &mut [u8],
-    room: &mut [u64],
-    list: &mut [u64],
-    buffer: &mut [u64],
-) -> u64
-    requires { ⌜ (length (now session) ≡ sessionBytes) × (isTable (length (now table)) ≡ true) × (length (now room) ≡ mostWords) ⌝ }
-    ensures { λ r. ⌜ r ≡ played true call s (lent (now (session .entry)) (now (table .entry))) .answer .code ⌝ }
-    ensures { λ _. ⌜ now (session .exit) ≡ played true call s (lent (now (session .entry)) (now (table .entry))) .session ⌝ }
-    ensures { λ _. ⌜ now (table .exit) ≡ played true call s (lent (now (session .entry)) (now (table .entry))) .table ⌝ }
-{
-    let n = table.len() / 8;
-    let returned = play(
-        call,
-        s,
-        session,
-        table,
-        &mut room[..n],
-        &mut list[..0],
-        &mut buffer[..0],
-    );
-    returned.code
-}
-
-fn play_table(call: Call, s: Session, session: &mut [u8], table: &mut [u8]) -> u64
-    requires { ⌜ (length (now session) ≡ sessionBytes) × (isTable (length (now table)) ≡ true) ⌝ }
-    ensures { λ r. ⌜ r ≡ played true call s (lent (now (session .entry)) (now (table .entry))) .answer .code ⌝ }
-    ensures { λ _. ⌜ now (session .exit) ≡ played true call s (lent (now (session .entry)) (now (table .entry))) .session ⌝ }
-    ensures { λ _. ⌜ now (table .exit) ≡ played true call s (lent (now (session .entry)) (now (table .entry))) .table ⌝ }
-{
-    let mut room = [0u64; MOST_WORDS];
-    let mut no_list = [0u64; 1];
-    let mut no_buffer = [0u64; 1];
-    play_in(
-        call,
-        s,
-        session,
-        table,
-        &mut room,
-        &mut no_list,
-        &mut no_buffer,
-    )
-}
-
-pub fn new(session: &mut [u8], table: &mut [u8], created: u64) -> u64
-    ensures { λ r. ⌜ r ≡ hostOf true (Call.New created) (lent (now (session .entry)) (now (table .entry))) .answer .code ⌝ }
-    ensures { λ _. ⌜ now (session .exit) ≡ hostOf true (Call.New created) (lent (now (session .entry)) (now (table .entry))) .session ⌝ }
-    ensures { λ _. ⌜ now (table .exit) ≡ hostOf true (Call.New created) (lent (now (session .entry)) (now (table .entry))) .table ⌝ }
-{
-    let blank = [0u64; sessions::SESSION_WORDS];
-    let whole = session.len() == reads::SESSION_BYTES;
-    let legal = reads::is_table(table.len());
-    if whole & legal {
-        let s = sessions::session_of(&blank);
-        return play_table(Call::New { created }, s, session, table);
-    }
-    codes::MALFORMED
-}
-
-// A call that takes no list, and reads its session.
-pub fn on_table(call: Call, session: &mut [u8], table: &mut [u8]) -> u64
-    requires { ⌜ isNew call ≡ false ⌝ }
-    ensures { λ r. ⌜ r ≡ hostOf true call (lent (now (session .entry)) (now (table .entry))) .answer .code ⌝ }
-    ensures { λ _. ⌜ now (session .exit) ≡ hostOf true call (lent (now (session .entry)) (now (table .entry))) .session ⌝ }
-    ensures { λ _. ⌜ now (table .exit) ≡ hostOf true call (lent (now (session .entry)) (now (table .entry))) .table ⌝ }
-{
-    let mut read = [0u64; sessions::SESSION_WORDS];
-    let words: &mut [u64] = &mut read;
-    let fits = reads::read(&session[..], table.len(), words);
-    if fits {
-        let s = sessions::session_of(&words[..]);
-        return play_table(call, s, session, table);
-    }
-    codes::MALFORMED
 }

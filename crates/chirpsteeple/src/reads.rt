@@ -1,11 +1,13 @@
 // What the lent bytes mean: session and table in their layouts, lists and buffers as words.
 ghost use mathlib.Core.Path.{_≡_};
 ghost use mathlib.Core.Bool.{true, cond, _&&_};
-ghost use Prim.Native.Nat.{_≤_};
+ghost use Prim.Native.Nat.{_+_, _≤_};
 ghost use lib.ListN.{length};
+ghost use Rattle.session.specs.Formed.{mostEntries};
 ghost use Rattle.wire.specs.Bytes.{wordsOf};
 ghost use Rattle.wire.specs.Sessions.{sessionLength};
-ghost use Rattle.chirpsteeple.specs.Host.{isTable, readable, isList, entryCount, entriesOf, entriesLeft};
+ghost use Rattle.chirpsteeple.specs.Host.{isTable, readable, isList, entriesOf, entriesLeft};
+ghost use Rattle.chirpsteeple.specs.Inside.{entryCount};
 use session::streams::MOST_ENTRIES;
 use wire::bytes;
 use wire::sessions;
@@ -42,15 +44,18 @@ pub fn is_list(sound: bool, len: usize) -> bool
     sound & ((len % 8 == 0) & (len <= 8 * MOST_ENTRIES))
 }
 
+// What is no list is taken for one of so many words.
+pub const MOST_TAKEN: usize = MOST_ENTRIES + 1;
+
 // How many words the bytes are taken for.
 pub fn entry_count(sound: bool, len: usize) -> usize
     ensures { λ r. ⌜ r ≡ entryCount sound len ⌝ }
-    ensures { λ r. ⌜ r ≤ 513 ⌝ }
+    ensures { λ r. ⌜ r ≤ mostEntries + 1 ⌝ }
 {
     if is_list(sound, len) {
         return len / 8;
     }
-    MOST_ENTRIES + 1
+    MOST_TAKEN
 }
 
 pub fn read_entries(sound: bool, b: &[u8], entries: &mut [u64])

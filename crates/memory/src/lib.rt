@@ -1,5 +1,8 @@
 // New, and the guest and memory calls.
 ghost use mathlib.Core.Path.{_≡_};
+ghost use mathlib.Core.List.{List};
+ghost use Prim.Native.Nat.{ℕ};
+ghost use lib.ListN.{length};
 ghost use Rattle.memory.specs.Memory.{newCode, newOut, isBlock, pageCode, pageTurn, onPage};
 ghost use Rattle.memory.specs.Memory.{writeOut, addOut, acceptOut, blockOut, unblockOut, removeOut, trackCode, trackOut};
 use page::moves;
@@ -25,19 +28,28 @@ fn new_code(len: usize, created: u64) -> u64
     codes::DONE
 }
 
-// A newSession bench over the lent table.
+// What New answers, of a table of that length.
+pub fn new_answer(s: Session, len: usize, created: u64) -> Answer
+    ensures { λ r. ⌜ ((t : List ℕ) → length t ≡ len → r ≡ newOut s t created .answer) ⌝ }
+{
+    let code = new_code(len, created);
+    if code != codes::DONE {
+        return Answer { code, session: s };
+    }
+    let session = session::new_session(len / 2, created);
+    Answer { code, session }
+}
+
+// A new bench over the lent table.
 pub fn new(s: Session, table: &mut [u64], created: u64) -> Answer
     ensures { λ r. ⌜ r ≡ newOut s (now (table .entry)) created .answer ⌝ }
     ensures { λ _. ⌜ now (table .exit) ≡ newOut s (now (table .entry)) created .table ⌝ }
 {
-    let code = new_code(table.len(), created);
-    if code != codes::DONE {
-        return Answer { code, session: s };
+    let answer = new_answer(s, table.len(), created);
+    if answer.code == codes::DONE {
+        table::clear(table);
     }
-    let pages = table.len() / 2;
-    table::clear(table);
-    let session = session::new_session(pages, created);
-    Answer { code, session }
+    answer
 }
 
 // ---- calls on one page
@@ -162,15 +174,25 @@ fn track_code(s: Session, len: usize) -> u64
     codes::DONE
 }
 
+// What track answers, of a table of that length.
+pub fn track_answer(s: Session, len: usize) -> Answer
+    ensures { λ r. ⌜ ((t : List ℕ) → length t ≡ len → r ≡ trackOut s t .answer) ⌝ }
+{
+    let code = track_code(s, len);
+    if code != codes::DONE {
+        return Answer { code, session: s };
+    }
+    let session = session::with_tlb(s, s.tlb + 1);
+    Answer { code, session }
+}
+
 // Tracking with all processors interrupted: no translation from before outlives it.
 pub fn track(s: Session, table: &mut [u64]) -> Answer
     ensures { λ r. ⌜ r ≡ trackOut s (now (table .entry)) .answer ⌝ }
     ensures { λ _. ⌜ now (table .exit) ≡ trackOut s (now (table .entry)) .table ⌝ }
 {
-    let code = track_code(s, table.len());
-    if code == codes::DONE {
-        let next = session::with_tlb(s, s.tlb + 1);
-        return session::finish(code, s, next, table, Sweep::Uncache);
-    }
-    Answer { code, session: s }
+    let answer = track_answer(s, table.len());
+    let code = answer.code;
+    let next = answer.session;
+    session::finish(code, s, next, table, Sweep::Uncache)
 }

@@ -27,6 +27,13 @@ tokenPage Granted = 0
 tokenPage (Refused code) = 0
 tokenPage (InTheWay code page) = page
 
+-- what is asked of the session alone: 43, 52
+abbrev pub tokenGate : Session → List Test
+tokenGate s =
+    busy s gives codes.operandBusy
+    ∷ not (s .check .complete) gives codes.memScanDcheckNotDone
+    ∷ []
+
 -- 43, 52, 53, 54
 abbrev pub tokenTests : Session → List ℕ → List Test
 tokenTests s t =

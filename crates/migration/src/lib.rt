@@ -1,9 +1,16 @@
 // The session calls, and the scans' reset.
 ghost use mathlib.Core.Path.{_≡_};
-ghost use mathlib.Core.List.{List};
+ghost use mathlib.Core.Bool.{true};
+ghost use mathlib.Core.List.{List, []};
 ghost use Prim.Native.Nat.{ℕ};
 ghost use lib.ListN.{length};
-ghost use Rattle.migration.specs.Migration.{startCode, startOut, pauseCode, pauseOut, abortOut};
+ghost use Rattle.page.specs.Page.{sought};
+ghost use Rattle.page.specs.declared.queries.Sought.the-variants.{Blocked, Unstartable};
+ghost use Rattle.table.specs.Table.{some};
+ghost use Rattle.session.specs.Session.{phasesOf};
+ghost use Rattle.session.specs.Formed.{gated};
+ghost use Rattle.session.specs.declared.When.the-variants.{Idle, Live};
+ghost use Rattle.migration.specs.Migration.{startOut, pauseOut, abortOut};
 ghost use Rattle.migration.specs.Migration.{newEpochCode, newEpochOut, resetOut};
 use page::queries::Sought;
 use page::sweeps::Sweep;
@@ -15,61 +22,112 @@ use words::codes;
 
 pub mod token;
 
-fn start_code(s: Session, table: &[u64]) -> u64
-    ensures { λ r. ⌜ r ≡ startCode s (now (table .entry)) ⌝ }
+// Whether there is a page of the kind. No page is looked at unless asked.
+fn seen(asked: bool, table: &[u64], k: Sought) -> bool
+    ensures { λ r. ⌜ (asked ≡ true → r ≡ some (sought k) (now (table .entry))) ⌝ }
 {
-    let gate = session::gate(s, table.len(), When::Idle);
+    if asked {
+        return table::has(table, k);
+    }
+    false
+}
+
+// What start answers: `gate` is its gate's code, and with 0 `stops` says whether some page cannot start.
+pub fn start_answer(s: Session, gate: u64, stops: bool) -> Answer
+    ensures { λ r. ⌜ ((t : List ℕ) → gate ≡ gated s (length t) (phasesOf Idle) [] → (gate ≡ 0 → stops ≡ some (sought Unstartable) t) → r ≡ startOut s t .answer) ⌝ }
+{
     if gate != codes::DONE {
-        return gate;
+        return Answer {
+            code: gate,
+            session: s,
+        };
     }
-    if table::has(table, Sought::Unstartable) {
-        return codes::EPT_ENTRY_STATE_INCORRECT;
+    if stops {
+        return Answer {
+            code: codes::EPT_ENTRY_STATE_INCORRECT,
+            session: s,
+        };
     }
-    codes::DONE
+    let session = session::begin(s, Phase::Live, 1);
+    Answer {
+        code: codes::DONE,
+        session,
+    }
 }
 
 pub fn start(s: Session, table: &mut [u64]) -> Answer
     ensures { λ r. ⌜ r ≡ startOut s (now (table .entry)) .answer ⌝ }
     ensures { λ _. ⌜ now (table .exit) ≡ startOut s (now (table .entry)) .table ⌝ }
 {
-    let code = start_code(s, &table[..]);
-    let next = session::begin(s, Phase::Live, 1);
+    let gate = session::gate(s, table.len(), When::Idle);
+    let stops = seen(gate == codes::DONE, &table[..], Sought::Unstartable);
+    let answer = start_answer(s, gate, stops);
+    let code = answer.code;
+    let next = answer.session;
     session::finish(code, s, next, table, Sweep::Start)
 }
 
-fn pause_code(s: Session, table: &[u64]) -> u64
-    ensures { λ r. ⌜ r ≡ pauseCode s (now (table .entry)) ⌝ }
+// What pause answers: `gate` is its gate's code, and with 0 `blocked` says whether some page is blocked.
+pub fn pause_answer(s: Session, gate: u64, blocked: bool) -> Answer
+    ensures { λ r. ⌜ ((t : List ℕ) → gate ≡ gated s (length t) (phasesOf Live) [] → (gate ≡ 0 → blocked ≡ some (sought Blocked) t) → r ≡ pauseOut s t .answer) ⌝ }
 {
-    let gate = session::gate(s, table.len(), When::Live);
     if gate != codes::DONE {
-        return gate;
+        return Answer {
+            code: gate,
+            session: s,
+        };
     }
     let interrupted = session::is_busy(s);
-    let blocked = table::has(table, Sought::Blocked);
     if blocked {
-        return codes::BLOCKED_MEMORY_EXISTS;
+        return Answer {
+            code: codes::BLOCKED_MEMORY_EXISTS,
+            session: s,
+        };
     }
     if interrupted {
-        return codes::OPERAND_BUSY;
+        return Answer {
+            code: codes::OPERAND_BUSY,
+            session: s,
+        };
     }
-    codes::DONE
+    let session = session::with_phase(s, Phase::Blackout);
+    Answer {
+        code: codes::DONE,
+        session,
+    }
 }
 
 pub fn pause(s: Session, table: &mut [u64]) -> Answer
     ensures { λ r. ⌜ r ≡ pauseOut s (now (table .entry)) .answer ⌝ }
     ensures { λ _. ⌜ now (table .exit) ≡ pauseOut s (now (table .entry)) .table ⌝ }
 {
-    let code = pause_code(s, &table[..]);
-    let next = session::with_phase(s, Phase::Blackout);
+    let gate = session::gate(s, table.len(), When::Live);
+    let blocked = seen(gate == codes::DONE, &table[..], Sought::Blocked);
+    let answer = pause_answer(s, gate, blocked);
+    let code = answer.code;
+    let next = answer.session;
     session::finish(code, s, next, table, Sweep::Uncache)
+}
+
+// What abort answers, of a table of that length.
+pub fn abort_answer(s: Session, len: usize) -> Answer
+    ensures { λ r. ⌜ ((t : List ℕ) → length t ≡ len → r ≡ abortOut s t .answer) ⌝ }
+{
+    let code = session::gate(s, len, When::Moving);
+    if code != codes::DONE {
+        return Answer { code, session: s };
+    }
+    let session = session::begin(s, Phase::Idle, 0);
+    Answer { code, session }
 }
 
 pub fn abort(s: Session, table: &mut [u64]) -> Answer
     ensures { λ r. ⌜ r ≡ abortOut s (now (table .entry)) .answer ⌝ }
     ensures { λ _. ⌜ now (table .exit) ≡ abortOut s (now (table .entry)) .table ⌝ }
 {
-    let code = session::gate(s, table.len(), When::Moving);
-    let next = session::begin(s, Phase::Idle, 0);
+    let answer = abort_answer(s, table.len());
+    let code = answer.code;
+    let next = answer.session;
     session::finish(code, s, next, table, Sweep::Abort)
 }
 

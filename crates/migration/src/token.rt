@@ -1,6 +1,15 @@
 // The start token, and what a driver learns where it is refused.
 ghost use mathlib.Core.Path.{_≡_};
-ghost use Rattle.migration.specs.Token.{tokenNumber, tokenPage, tokenCode, inTheWay, tokenFor, tokenOut};
+ghost use mathlib.Core.Bool.{true};
+ghost use mathlib.Core.List.{List};
+ghost use Prim.Native.Nat.{ℕ, _≤_};
+ghost use lib.ListN.{length};
+ghost use Rattle.page.specs.Page.{sought, gives53, gives54};
+ghost use Rattle.table.specs.Table.{pageCount, lowest};
+ghost use Rattle.session.specs.Session.{phasesOf};
+ghost use Rattle.session.specs.Formed.{gated};
+ghost use Rattle.session.specs.declared.When.the-variants.{Blackout};
+ghost use Rattle.migration.specs.Token.{tokenNumber, tokenPage, tokenGate, tokenCode, inTheWay, tokenOut};
 use page::queries::Sought;
 use session::Phase;
 use session::Session;
@@ -41,10 +50,11 @@ pub fn page_of(k: Token) -> usize
     }
 }
 
-fn token_code(s: Session, table: &[u64]) -> u64
-    ensures { λ r. ⌜ r ≡ tokenCode s (now (table .entry)) ⌝ }
+// What stands before any look at the table: the gate, 43 and 52.
+pub fn token_gate(s: Session, len: usize) -> u64
+    ensures { λ r. ⌜ r ≡ gated s len (phasesOf Blackout) (tokenGate s) ⌝ }
 {
-    let gate = session::gate(s, table.len(), When::Blackout);
+    let gate = session::gate(s, len, When::Blackout);
     if gate != codes::DONE {
         return gate;
     }
@@ -56,31 +66,52 @@ fn token_code(s: Session, table: &[u64]) -> u64
     if unfinished {
         return codes::MEM_SCAN_DCHECK_NOT_DONE;
     }
-    if table::has(table, Sought::Gives53) {
-        return codes::EXPORTED_DIRTY_PAGES_REMAIN;
-    }
-    if table::has(table, Sought::Gives54) {
-        return codes::UNEXPORTED_MEMORY_REMAINS;
-    }
     codes::DONE
 }
 
-// A refusal for a page walks to it once more; a grant does not.
-fn token_for(code: u64, table: &[u64]) -> Token
-    ensures { λ r. ⌜ r ≡ tokenFor code (now (table .entry)) ⌝ }
+// What the token answers: `gate` is what stands before the table, and with 0 `first53` is the lowest page of `pages` that gives 53; where there is none, `first54` the lowest that gives 54.
+pub fn token_answer(
+    s: Session,
+    gate: u64,
+    pages: usize,
+    first53: usize,
+    first54: usize,
+) -> TokenAnswer
+    ensures { λ r. ⌜ ((t : List ℕ) → gate ≡ gated s (length t) (phasesOf Blackout) (tokenGate s) → pages ≡ pageCount t → (gate ≡ 0 → first53 ≡ lowest gives53 (pageCount t) 0 t) → (gate ≡ 0 → pages ≤ first53 → first54 ≡ lowest gives54 (pageCount t) 0 t) → r ≡ tokenOut s t) ⌝ }
 {
-    if code == codes::DONE {
-        return Token::Granted;
+    if gate != codes::DONE {
+        let token = Token::Refused { code: gate };
+        return TokenAnswer { token, session: s };
     }
-    if code == codes::EXPORTED_DIRTY_PAGES_REMAIN {
-        let page = table::find(table, Sought::Gives53);
-        return Token::InTheWay { code, page };
+    if first53 < pages {
+        let token = Token::InTheWay {
+            code: codes::EXPORTED_DIRTY_PAGES_REMAIN,
+            page: first53,
+        };
+        return TokenAnswer { token, session: s };
     }
-    if code == codes::UNEXPORTED_MEMORY_REMAINS {
-        let page = table::find(table, Sought::Gives54);
-        return Token::InTheWay { code, page };
+    if first54 < pages {
+        let token = Token::InTheWay {
+            code: codes::UNEXPORTED_MEMORY_REMAINS,
+            page: first54,
+        };
+        return TokenAnswer { token, session: s };
     }
-    Token::Refused { code }
+    let session = session::with_phase(s, Phase::Done);
+    TokenAnswer {
+        token: Token::Granted,
+        session,
+    }
+}
+
+// The lowest page of the kind. No page is looked at unless asked.
+fn first(asked: bool, table: &[u64], k: Sought) -> usize
+    ensures { λ r. ⌜ (asked ≡ true → r ≡ lowest (sought k) (pageCount (now (table .entry))) 0 (now (table .entry))) ⌝ }
+{
+    if asked {
+        return table::find(table, k);
+    }
+    0
 }
 
 pub fn start_token(s: Session, table: &[u64]) -> TokenAnswer
@@ -88,11 +119,13 @@ pub fn start_token(s: Session, table: &[u64]) -> TokenAnswer
     ensures { λ r. ⌜ tokenNumber (r .token) ≡ tokenCode s (now (table .entry)) ⌝ }
     ensures { λ r. ⌜ tokenPage (r .token) ≡ inTheWay (tokenCode s (now (table .entry))) (now (table .entry)) ⌝ }
 {
-    let code = token_code(s, table);
-    let token = token_for(code, table);
-    if code != codes::DONE {
-        return TokenAnswer { token, session: s };
-    }
-    let session = session::with_phase(s, Phase::Done);
-    TokenAnswer { token, session }
+    let pages = table.len() / 2;
+    let gate = token_gate(s, table.len());
+    let first53 = first(gate == codes::DONE, table, Sought::Gives53);
+    let first54 = first(
+        (gate == codes::DONE) & (pages <= first53),
+        table,
+        Sought::Gives54,
+    );
+    token_answer(s, gate, pages, first53, first54)
 }

@@ -14,6 +14,7 @@ use Rattle.session.specs.Formed.{formed, gateTests, gated}
 use Rattle.session.specs.Outcome.{Outcome, outcome, answered}
 use Rattle.session.specs.declared.Phase.{Phase}
 use Rattle.session.specs.declared.Session.{Session}
+use Rattle.session.specs.declared.Answer.{Answer}
 
 pub below-next : (a b : ℕ) → a ≤ b → a ≤ b + 1
 below-next a b h = omega arith
@@ -32,6 +33,17 @@ gate-first s len phases l = go (not (formed s len)) (not (among phases (s .phase
 pub answered-either : (P : Outcome → Type 0) (code : ℕ) (s : Session) (t : List ℕ) (s' : Session) (t' : List ℕ) → (eqb code 0 ≡ true → P (outcome code s' t')) → (eqb code 0 ≡ false → P (outcome code s t)) → P (answered code s t s' t')
 unfolding answered
 answered-either P code s t s' t' made kept = either P (eqb code 0) made kept
+
+-- whoever has the answer knows the table, and need not make the answer again
+module _ (code : ℕ) (s : Session) (t : List ℕ) (s' : Session) (t' : List ℕ) (a : Answer) (e : a ≡ answered code s t s' t' .answer) where
+  pub answered-table : answered code s t s' t' .table ≡ cond (eqb (a .code) 0) t' t
+  answered-table =
+      rw e (answered-either (λ (o : Outcome). o .table ≡ cond (eqb (o .answer .code) 0) t' t) code s t s' t' (λ z. rw z) (λ n. rw n))
+
+  pub answered-again : answered (a .code) s t (a .session) t' ≡ answered code s t s' t'
+  unfolding answered
+  answered-again =
+      rw e (answered-either (λ (o : Outcome). answered (o .answer .code) s t (o .answer .session) t' ≡ o) code s t s' t' (λ z. rw z) (λ n. rw n))
 
 -- a call that makes no other table leaves the table
 pub table-kept : (code : ℕ) (s s' : Session) (t : List ℕ) → answered code s t s' t .table ≡ t

@@ -12,7 +12,7 @@ use lib.ListN.{length, getD, set, take, drop, replicate, length-append, length-d
 use lib.Seq.{sets-eq, ext-getD, getD-at, getD-drop, take-suc, take-add, take-all}
 use borrow.Author.Tests.{ltb-true}
 use Rattle.page.specs.declared.records.PageWords.{PageWords}
-use Rattle.table.specs.Table.{putAt}
+use Rattle.table.specs.Table.{pageCount, putAt}
 use Rattle.wire.specs.Bytes.{halfAt, wordAt, halfBytes, wordBytes, putWord, upTo, wordsOf, bytesOf, Bytes, Words}
 use Rattle.wire.specs.Tables.{putPage}
 
@@ -149,6 +149,52 @@ page-bytes b i w y h =
         let inside : i < length b / 16 = ltb-true _ _ q in
         ap (λ (r : List ℕ). putWord (putWord r (16 * i) (w .word)) (16 * i + 8) (w .mark)) (sym (bytes-back b y h)) ∙ put-two (wordsOf b) i (w .word) (w .mark) (rw (words-length b) (omega arith))
     go false q = sym (bytes-back b y h)
+
+-- ---- what is put into words stays words, so that a page that was put is read
+
+words-more : (v : List ℕ) (x : ℕ) → Words v → x < 0x10000000000000000 → Words (v ++ (x ∷ []))
+words-more [] x h k zero = k
+words-more [] x h k (suc i) = h i
+words-more (y ∷ l) x h k zero = h 0
+words-more (y ∷ l) x h k (suc i) = words-more l x (λ j. h (suc j)) k i
+
+words-set : (v : List ℕ) (i x : ℕ) → Words v → x < 0x10000000000000000 → Words (set v i x)
+words-set [] i x h k j = h j
+words-set (y ∷ l) zero x h k zero = k
+words-set (y ∷ l) zero x h k (suc j) = h (suc j)
+words-set (y ∷ l) (suc i) x h k zero = h 0
+words-set (y ∷ l) (suc i) x h k (suc j) = words-set l i x (λ n. h (suc n)) k j
+
+up-words : (f : ℕ → ℕ) (n : ℕ) → ((i : ℕ) → f i < 0x10000000000000000) → Words (upTo f n)
+up-words f zero h i = omega arith
+up-words f (suc n) h i = words-more (upTo f n) (f n) (up-words f n h) (h n) i
+
+word-small : (b : List ℕ) (at : ℕ) → Bytes b → wordAt b at < 0x10000000000000000
+unfolding wordAt
+word-small b at y =
+    let low : halfAt b at < 0x100000000 = omega (arith, y at, y (at + 1), y (at + 2), y (at + 3)) in
+    let high : halfAt b (at + 4) < 0x100000000 = omega (arith, y (at + 4), y (at + 4 + 1), y (at + 4 + 2), y (at + 4 + 3)) in
+    omega arith
+
+words-small : (b : List ℕ) → Bytes b → Words (wordsOf b)
+unfolding wordsOf
+words-small b y = up-words (λ i. wordAt b (8 * i)) (length b / 8) (λ i. word-small b (8 * i) y)
+
+put-small : (t : List ℕ) (i : ℕ) (w : PageWords) → Words t → w .word < 0x10000000000000000 → w .mark < 0x10000000000000000 → Words (putAt t i w)
+unfolding putAt
+put-small t i w h k m = go (ltb i (length t / 2))
+  where
+    go : (c : Bool) → Words (cond c (set (set t (2 * i) (w .word)) (2 * i + 1) (w .mark)) t)
+    go true = words-set (set t (2 * i) (w .word)) (2 * i + 1) (w .mark) (words-set t (2 * i) (w .word) h k) m
+    go false = h
+
+pub words-put : (b : List ℕ) (i : ℕ) (w : PageWords) → Bytes b → length b % 8 ≡ 0 → w .word < 0x10000000000000000 → w .mark < 0x10000000000000000 → wordsOf (putPage b i w) ≡ putAt (wordsOf b) i w
+words-put b i w y h k m =
+    ap wordsOf (page-bytes b i w y h) ∙ words-back (putAt (wordsOf b) i w) (put-small (wordsOf b) i w (words-small b y) k m)
+
+-- the pages of the bytes are those of the words
+pub page-count : (b : List ℕ) → pageCount (wordsOf b) ≡ length b / 16
+page-count b = rw (words-length b) (omega arith)
 
 pub zero-bytes : (n : ℕ) → bytesOf (replicate n 0) ≡ replicate (8 * n) 0
 zero-bytes zero = refl

@@ -2,7 +2,8 @@
 use borrow.Author.Needs.{needs}
 use Rattle.memory.specs.Memory.{blockOut}
 use Rattle.wire.specs.Bytes.{wordsOf}
-use Rattle.chirpsteeple.specs.Host.{played, hostOf, onePage}
+use Rattle.chirpsteeple.specs.Host.{played, hostOf}
+use Rattle.chirpsteeple.specs.Inside.{onePage}
 use Rattle.chirpsteeple.proofs.chirp_block.Statement.{statement}
 use Rattle.chirpsteeple.proofs.chirp_block.Tie as tie
 

@@ -1,43 +1,44 @@
--- By the code: the inputs, or what the two functions make.
+-- The answer is that of the table's length, and the table is cleared where its code is 0.
 use borrow.Author.Needs.{needs}
-use Rattle.memory.specs.Memory.{newOut}
-use Rattle.session.specs.Outcome.{answered}
-use borrow.Author.Tests.{eq-eqb, ne-eqb}
 use mathlib.Core.Path.{refl}
+use denote.Ref.{now}
+use Rattle.memory.specs.Memory.{newOut}
+use Rattle.session.proofs.Laws.{answered-table}
+use borrow.Author.Tests.{eq-eqb, ne-eqb}
 use Rattle.memory.proofs.new.Statement.{statement}
 use Rattle.memory.proofs.new.Tie as tie
 
-new-code-requires : tie.Need-new-code-requires
-new-code-requires c κs = search needs
-
-returns : tie.Need-returns
-unfolding newOut answered
-returns c = rw (← c .before .new-code .ensures, ne-eqb _ _ (c .if1 .taken)) (refl, refl)
+new-answer-requires : tie.Need-new-answer-requires
+new-answer-requires c κs = search needs
 
 clear-requires : tie.Need-clear-requires
 clear-requires c κs = search needs
 
-new-session-requires : tie.Need-new-session-requires
-new-session-requires c κs = search needs
-
 same-length : tie.Need-same-length
 same-length c = search needs
 
-returns-2 : tie.Need-returns-2
-unfolding newOut answered
-returns-2 c =
-    let at-clear = c .before .before .before in
+returns : tie.Need-returns
+unfolding newOut
+returns c =
+    let at-clear = c .before .before in
     let at-if1 = at-clear .before .before in
-    let at-new-code = at-if1 .before in
-    rw (← at-new-code .new-code .ensures, eq-eqb _ _ (at-if1 .if1 .left), ← c .new-session .ensures) (refl, at-clear .clear .ensures)
+    let at-answer = at-if1 .before .before in
+    let answer = at-answer .new-answer .ensures (now (at-answer .before .before .args .table)) refl in
+    (answer, rw (answered-table _ _ _ _ _ _ answer, eq-eqb _ _ (at-if1 .if1 .taken)) (at-clear .clear .ensures))
+
+returns-2 : tie.Need-returns-2
+unfolding newOut
+returns-2 c =
+    let at-answer = c .before .before in
+    let answer = at-answer .new-answer .ensures (now (at-answer .before .before .args .table)) refl in
+    (answer, rw (answered-table _ _ _ _ _ _ answer, ne-eqb _ _ (c .if1 .left)))
 
 pub new-spec : {M : Type 1} → statement M
 new-spec =
     tie.close
     (tie.spec
-    new-code-requires
-    returns
+    new-answer-requires
     clear-requires
-    new-session-requires
     same-length
+    returns
     returns-2)

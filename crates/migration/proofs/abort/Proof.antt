@@ -1,14 +1,14 @@
--- The code, which is the gate's, the next session and the end of the call are those of the definition.
+-- The answer is that of the table's length, and the end of the call gives it back.
 use borrow.Author.Needs.{needs}
-use Rattle.migration.specs.Migration.{abortOut, abortCode}
+use mathlib.Core.Path.{refl}
+use denote.Ref.{now}
+use Rattle.migration.specs.Migration.{abortOut}
+use Rattle.session.proofs.Laws.{answered-again}
 use Rattle.migration.proofs.abort.Statement.{statement}
 use Rattle.migration.proofs.abort.Tie as tie
 
-gate-requires : tie.Need-gate-requires
-gate-requires c κs = search needs
-
-begin-requires : tie.Need-begin-requires
-begin-requires c κs = search needs
+abort-answer-requires : tie.Need-abort-answer-requires
+abort-answer-requires c κs = search needs
 
 finish-requires : tie.Need-finish-requires
 finish-requires c κs = search needs
@@ -17,19 +17,18 @@ same-length : tie.Need-same-length
 same-length c = search needs
 
 returns : tie.Need-returns
-unfolding abortOut abortCode
+unfolding abortOut
 returns c =
     let at-finish = c .before .before in
-    let at-begin = at-finish .before .before in
-    let at-gate = at-begin .before in
-    rw (← at-gate .gate .ensures, ← at-begin .begin .ensures) (at-finish .finish .ensures)
+    let at-answer = at-finish .before .before .before in
+    let answer = at-answer .abort-answer .ensures (now (at-answer .before .before .args .table)) refl in
+    rw (← answered-again _ _ _ _ _ _ answer) (at-finish .finish .ensures)
 
 pub abort-spec : {M : Type 1} → statement M
 abort-spec =
     tie.close
     (tie.spec
-    gate-requires
-    begin-requires
+    abort-answer-requires
     finish-requires
     same-length
     returns)

@@ -1,14 +1,21 @@
--- The code, the next session and the end of the call are those of the definition.
+-- The answer is that of the gate and the page looked for, and the end of the call gives it back.
 use borrow.Author.Needs.{needs}
+use mathlib.Core.Path.{refl}
+use denote.Ref.{now}
 use Rattle.migration.specs.Migration.{pauseOut}
+use Rattle.session.proofs.Laws.{answered-again}
+use borrow.Author.Tests.{eq-eqb}
 use Rattle.migration.proofs.pause.Statement.{statement}
 use Rattle.migration.proofs.pause.Tie as tie
 
-pause-code-requires : tie.Need-pause-code-requires
-pause-code-requires c κs = search needs
+gate-requires : tie.Need-gate-requires
+gate-requires c κs = search needs
 
-with-phase-requires : tie.Need-with-phase-requires
-with-phase-requires c κs = search needs
+seen-requires : tie.Need-seen-requires
+seen-requires c κs = search needs
+
+pause-answer-requires : tie.Need-pause-answer-requires
+pause-answer-requires c κs = search needs
 
 finish-requires : tie.Need-finish-requires
 finish-requires c κs = search needs
@@ -20,16 +27,19 @@ returns : tie.Need-returns
 unfolding pauseOut
 returns c =
     let at-finish = c .before .before in
-    let at-with-phase = at-finish .before .before in
-    let at-pause-code = at-with-phase .before in
-    rw (← at-pause-code .pause-code .ensures, ← at-with-phase .with-phase .ensures) (at-finish .finish .ensures)
+    let at-answer = at-finish .before .before .before in
+    let at-seen = at-answer .before in
+    let at-gate = at-seen .before .before in
+    let answer = at-answer .pause-answer .ensures (now (at-gate .before .before .args .table)) (at-gate .gate .ensures) (λ z. at-seen .seen .ensures (eq-eqb _ _ z)) in
+    rw (← answered-again _ _ _ _ _ _ answer) (at-finish .finish .ensures)
 
 pub pause-spec : {M : Type 1} → statement M
 pause-spec =
     tie.close
     (tie.spec
-    pause-code-requires
-    with-phase-requires
+    gate-requires
+    seen-requires
+    pause-answer-requires
     finish-requires
     same-length
     returns)

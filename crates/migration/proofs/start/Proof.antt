@@ -1,14 +1,21 @@
--- The code, the next session and the end of the call are those of the definition.
+-- The answer is that of the gate and the page looked for, and the end of the call gives it back.
 use borrow.Author.Needs.{needs}
+use mathlib.Core.Path.{refl}
+use denote.Ref.{now}
 use Rattle.migration.specs.Migration.{startOut}
+use Rattle.session.proofs.Laws.{answered-again}
+use borrow.Author.Tests.{eq-eqb}
 use Rattle.migration.proofs.start.Statement.{statement}
 use Rattle.migration.proofs.start.Tie as tie
 
-start-code-requires : tie.Need-start-code-requires
-start-code-requires c κs = search needs
+gate-requires : tie.Need-gate-requires
+gate-requires c κs = search needs
 
-begin-requires : tie.Need-begin-requires
-begin-requires c κs = search needs
+seen-requires : tie.Need-seen-requires
+seen-requires c κs = search needs
+
+start-answer-requires : tie.Need-start-answer-requires
+start-answer-requires c κs = search needs
 
 finish-requires : tie.Need-finish-requires
 finish-requires c κs = search needs
@@ -20,16 +27,19 @@ returns : tie.Need-returns
 unfolding startOut
 returns c =
     let at-finish = c .before .before in
-    let at-begin = at-finish .before .before in
-    let at-start-code = at-begin .before in
-    rw (← at-start-code .start-code .ensures, ← at-begin .begin .ensures) (at-finish .finish .ensures)
+    let at-answer = at-finish .before .before .before in
+    let at-seen = at-answer .before in
+    let at-gate = at-seen .before .before in
+    let answer = at-answer .start-answer .ensures (now (at-gate .before .before .args .table)) (at-gate .gate .ensures) (λ z. at-seen .seen .ensures (eq-eqb _ _ z)) in
+    rw (← answered-again _ _ _ _ _ _ answer) (at-finish .finish .ensures)
 
 pub start-spec : {M : Type 1} → statement M
 start-spec =
     tie.close
     (tie.spec
-    start-code-requires
-    begin-requires
+    gate-requires
+    seen-requires
+    start-answer-requires
     finish-requires
     same-length
     returns)

@@ -6,7 +6,8 @@ use lib.ListN.{length}
 use borrow.Author.Needs.{needs}
 use borrow.Author.Tests.{eq-eqb, ne-eqb}
 use denote.Ref.{now}
-use Rattle.chirpsteeple.specs.Host.{readable, onePage}
+use Rattle.chirpsteeple.specs.Host.{readable}
+use Rattle.chirpsteeple.specs.Inside.{onePage}
 use Rattle.chirpsteeple.proofs.PageLaws.{turnOn, turnLeft, one-page}
 use Rattle.chirpsteeple.proofs.pages.on_page.Statement.{statement}
 use Rattle.chirpsteeple.proofs.pages.on_page.Tie as tie

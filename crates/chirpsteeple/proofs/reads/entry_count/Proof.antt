@@ -11,9 +11,6 @@ is-list-requires c κs = search needs
 returns : tie.Need-returns
 returns c = (rw (← c .before .is-list .ensures, c .if1 .taken), list-room (c .before .before .args .sound) (c .before .before .args .len) (sym (c .before .is-list .ensures) ∙ c .if1 .taken))
 
-add-result : tie.Need-add-result
-add-result c = search needs
-
 returns-2 : tie.Need-returns-2
 returns-2 c = (rw (← c .before .is-list .ensures, c .if1 .left), omega arith)
 
@@ -23,5 +20,4 @@ entry-count-spec =
     (tie.spec
     is-list-requires
     returns
-    add-result
     returns-2)

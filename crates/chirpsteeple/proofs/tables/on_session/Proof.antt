@@ -7,7 +7,8 @@ use Rattle.session.specs.declared.Session.{Session}
 use Rattle.wire.specs.Bytes.{wordsOf}
 use Rattle.wire.specs.Sessions.{sessionOf}
 use Rattle.wire.proofs.BytesLaws.{words-length}
-use Rattle.chirpsteeple.specs.Host.{lent, callAlone, aloneOut}
+use Rattle.chirpsteeple.specs.Host.{lent}
+use Rattle.chirpsteeple.specs.Inside.{callAlone, aloneOut}
 use Rattle.chirpsteeple.proofs.LayoutLaws.{readable-means, host-refused}
 use Rattle.chirpsteeple.proofs.TablesLaws.{alone-reads, alone-left}
 use Rattle.chirpsteeple.proofs.tables.on_session.Statement.{statement}

@@ -1,18 +1,17 @@
--- In the layouts the table's words have room, and what is left is the grant's; else 40.
+-- In the layouts what is left is the grant's; else 40.
 use borrow.Author.Needs.{needs}
 use mathlib.Core.Bool.{true}
 use mathlib.Core.Path.{refl, sym, ap, _∙_}
-use lib.ListN.{length}
 use denote.Ref.{now}
 use Rattle.calls.specs.declared.Call.the-variants.{StartToken}
 use Rattle.wire.specs.Sessions.{sessionOf}
-use Rattle.chirpsteeple.proofs.LayoutLaws.{Readable, readable-means, table-whole, room-for, host-played, host-refused}
+use Rattle.chirpsteeple.proofs.LayoutLaws.{readable-means, table-whole, host-played, host-refused}
 use Rattle.chirpsteeple.specs.Host.{lent}
 use Rattle.chirpsteeple.proofs.tables.start_token.Statement.{statement}
 use Rattle.chirpsteeple.proofs.tables.start_token.Tie as tie
 
-slice-aggregate-head : tie.Need-slice-aggregate-head
-slice-aggregate-head c = search needs
+slice-aggregate-words : tie.Need-slice-aggregate-words
+slice-aggregate-words c = search needs
 
 read-requires : tie.Need-read-requires
 read-requires c κs = search needs
@@ -20,31 +19,19 @@ read-requires c κs = search needs
 session-of-requires : tie.Need-session-of-requires
 session-of-requires c κs = search needs
 
-slice-aggregate-words : tie.Need-slice-aggregate-words
-slice-aggregate-words c = search needs
-
-abbrev start : tie.After-words → tie.Start
-start c = c .before .before .before .before .before .before .before .before .before .before .before .before .before .before .before
-
--- session and table are in their layouts
-layouts : (c : tie.After-words) → Readable (now (start c .args .session)) (length (now (start c .args .table)))
-layouts c =
-    let at-if = c .before .before .before .before .before .before in
-    readable-means _ _ (sym (at-if .before .before .before .read2 .ensures .0) ∙ at-if .if1 .taken)
-
-slice-aggregate-grant : tie.Need-slice-aggregate-grant
-slice-aggregate-grant c = sym (room-for _ _ refl (layouts c .table))
-
 grant-requires : tie.Need-grant-requires
-grant-requires c κs = (layouts c .long, table-whole _ (layouts c .table), room-for _ _ refl (layouts c .table))
+grant-requires c κs =
+    let at-if = c .before .before .before .before in
+    let h = readable-means _ _ (sym (at-if .before .before .before .read2 .ensures .0) ∙ at-if .if1 .taken) in
+    (h .long, table-whole _ (h .table))
 
 same-length : tie.Need-same-length
 same-length c = search needs
 
 returns : tie.Need-returns
 returns c =
-    let at-grant = c .before .before .before in
-    let at-session = at-grant .before .before .before .before .before in
+    let at-grant = c .before .before in
+    let at-session = at-grant .before .before .before in
     let at-if = at-session .before .before in
     let at-read = at-if .before .before .before in
     let start = at-read .before .before .before .before .before .before in
@@ -70,11 +57,9 @@ pub start-token-spec : {M : Type 1} → statement M
 start-token-spec =
     tie.close
     (tie.spec
-    slice-aggregate-head
+    slice-aggregate-words
     read-requires
     session-of-requires
-    slice-aggregate-words
-    slice-aggregate-grant
     grant-requires
     same-length
     returns

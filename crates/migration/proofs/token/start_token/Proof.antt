@@ -1,35 +1,48 @@
--- By the code: the case that stands for it, whose numbers the two laws give.
+-- What is looked for is what the answer asks for; the numbers of its case are by the two laws.
 use borrow.Author.Needs.{needs}
-use Rattle.migration.specs.Token.{tokenOut}
+use mathlib.Core.Path.{_≡_, refl}
+use mathlib.Core.List.{List}
+use Prim.Native.Nat.{ℕ}
+use Rattle.session.specs.declared.Session.{Session}
+use denote.Ref.{now}
+use borrow.Author.Tests.{eq-eqb, le-leb}
+use Rattle.migration.specs.Token.{tokenNumber, tokenPage, tokenCode, inTheWay, tokenOut}
+use Rattle.migration.specs.declared.token.TokenAnswer.{TokenAnswer}
 use Rattle.migration.proofs.Laws.{token-number, token-page}
-use borrow.Author.Tests.{eq-eqb, ne-eqb}
-use mathlib.Core.Path.{refl}
 use Rattle.migration.proofs.token.start_token.Statement.{statement}
 use Rattle.migration.proofs.token.start_token.Tie as tie
 
-token-code-requires : tie.Need-token-code-requires
-token-code-requires c κs = search needs
+numbers : (s : Session) (t : List ℕ) (r : TokenAnswer) → r ≡ tokenOut s t → (tokenNumber (r .token) ≡ tokenCode s t) × (tokenPage (r .token) ≡ inTheWay (tokenCode s t) t)
+unfolding tokenOut
+numbers s t r e = rw e (token-number (tokenCode s t) t, token-page (tokenCode s t) t)
 
-token-for-requires : tie.Need-token-for-requires
-token-for-requires c κs = search needs
+token-gate-requires : tie.Need-token-gate-requires
+token-gate-requires c κs = search needs
+
+first-requires : tie.Need-first-requires
+first-requires c κs = search needs
+
+first-requires-2 : tie.Need-first-requires-2
+first-requires-2 c κs = search needs
+
+token-answer-requires : tie.Need-token-answer-requires
+token-answer-requires c κs = search needs
 
 returns : tie.Need-returns
-unfolding tokenOut
-returns c = rw (← c .before .before .token-code .ensures, ← c .before .token-for .ensures, ne-eqb _ _ (c .if1 .taken)) (refl, (rw (c .before .token-for .ensures) (token-number _ _), rw (c .before .token-for .ensures) (token-page _ _)))
-
-with-phase-requires : tie.Need-with-phase-requires
-with-phase-requires c κs = search needs
-
-returns-2 : tie.Need-returns-2
-unfolding tokenOut
-returns-2 c = rw (← c .before .before .before .token-code .ensures, ← c .before .before .token-for .ensures, eq-eqb _ _ (c .before .if1 .left), ← c .with-phase .ensures) (refl, (rw (c .before .before .token-for .ensures) (token-number _ _), rw (c .before .before .token-for .ensures) (token-page _ _)))
+returns c =
+    let at-54 = c .before in
+    let at-53 = at-54 .before in
+    let at-gate = at-53 .before in
+    let a = at-gate .before .before .args in
+    let answer = c .token-answer .ensures (now (a .table)) (at-gate .token-gate .ensures) refl (λ z. at-53 .first .ensures (eq-eqb _ _ z)) (λ z h. at-54 .first2 .ensures (rw (eq-eqb _ _ z) (le-leb _ _ h))) in
+    (answer, numbers (a .s) (now (a .table)) (c .token-answer .result) answer)
 
 pub start-token-spec : {M : Type 1} → statement M
 start-token-spec =
     tie.close
     (tie.spec
-    token-code-requires
-    token-for-requires
-    returns
-    with-phase-requires
-    returns-2)
+    token-gate-requires
+    first-requires
+    first-requires-2
+    token-answer-requires
+    returns)

@@ -1,0 +1,33 @@
+-- The answer of the gate and the page looked for, on the words that the bytes are.
+use borrow.Author.Needs.{needs}
+use borrow.Author.Tests.{eq-eqb}
+use denote.Ref.{now}
+use Rattle.wire.specs.Bytes.{wordsOf}
+use Rattle.wire.proofs.BytesLaws.{words-length}
+use Rattle.chirpsteeple.proofs.sweeps.start.Statement.{statement}
+use Rattle.chirpsteeple.proofs.sweeps.start.Tie as tie
+
+gate-requires : tie.Need-gate-requires
+gate-requires c κs = search needs
+
+seen-requires : tie.Need-seen-requires
+seen-requires c κs = search needs
+
+start-answer-requires : tie.Need-start-answer-requires
+start-answer-requires c κs = search needs
+
+returns : tie.Need-returns
+returns c =
+    let at-seen = c .before in
+    let at-gate = at-seen .before in
+    let t = now (at-gate .before .before .args .table) in
+    c .start-answer .ensures (wordsOf t) (rw (words-length t) (at-gate .gate .ensures)) (λ z. at-seen .seen .ensures (eq-eqb _ _ z))
+
+pub start-spec : {M : Type 1} → statement M
+start-spec =
+    tie.close
+    (tie.spec
+    gate-requires
+    seen-requires
+    start-answer-requires
+    returns)
