@@ -55,17 +55,30 @@ known-record r = go (plain r)
 as-read : (r : Record) (n a b : ℕ) → n ≡ r .state → r .spare10 ≡ a → r .spare48 ≡ b → record { state = n; dirty = r .dirty; cached = r .cached; spare10 = a; stamp = r .stamp; epoch = r .epoch; spare48 = b } ≡ r
 as-read r n a b x y z = rw (x, ← y, ← z)
 
--- what was read is written again
-pub write-read : (w : PageWords) → w .word < 2 ^ 64 → strange (pageOf w) ≡ false → written w (pageOf w) ≡ w
-unfolding pageOf written plain
-write-read w h e =
+-- the record of a page that is not strange is what its word says
+pub read-record : (w : PageWords) → strange (pageOf w) ≡ false → recordFor (pageOf w) ≡ recordOf (w .word)
+unfolding pageOf plain
+read-record w e =
     let r = recordOf (w .word) in
     let k = known-record r e in
     let a = eqb (r .spare10) 0 in
     let b = eqb (r .spare48) 0 in
-    let same-read : recordFor (pageOf w) ≡ r
-    = rw (k .1) (as-read r _ 0 0 (k .0) (eqb-true _ _ (and-left a b (k .1))) (eqb-true _ _ (and-right a b (k .1)))) in
-    rw (fields-held (pageOf w) (read-held w e), same-read, word-record (w .word) h)
+    rw (k .1) (as-read r _ 0 0 (k .0) (eqb-true _ _ (and-left a b (k .1))) (eqb-true _ _ (and-right a b (k .1))))
+
+-- and its state is what the record's number names
+pub read-state : (w : PageWords) → strange (pageOf w) ≡ false → pageOf w .state ≡ stateOf (recordOf (w .word) .state)
+unfolding pageOf
+read-state w e = rw (known-record (recordOf (w .word)) e .1)
+
+-- a word that reads as a page's record is written
+pub write-record : (w : PageWords) (v : ℕ) (p : Page) → v < 2 ^ 64 → Held p → recordOf v ≡ recordFor p → written w p ≡ record { word = v; mark = p .mark }
+unfolding written
+write-record w v p l h e = rw (fields-held p h, ← e, word-record v l)
+
+-- what was read is written again
+pub write-read : (w : PageWords) → w .word < 2 ^ 64 → strange (pageOf w) ≡ false → written w (pageOf w) ≡ w
+unfolding pageOf
+write-read w h e = write-record w (w .word) (pageOf w) h (read-held w e) (sym (read-record w e))
 
 -- what a page may become: a strange one stays, and any other becomes one that a record holds
 pub record Becomes (p q : Page) : Type 0 where

@@ -150,7 +150,7 @@ refreshed-held p to k h = record { known = k; stamp = by (rowOf to .stamped); ep
     by true = h .stamp
     by false = lit< tt
 
-sweep-held : (k : Sweep) (p : Page) → Held p → Held (sweptBy k p)
+pub sweep-held : (k : Sweep) (p : Page) → Held p → Held (sweptBy k p)
 sweep-held Uncache p h = record { known = h .known; stamp = h .stamp; epoch = h .epoch }
 sweep-held Start p h = refreshed-held p (p .state) (h .known) h
 sweep-held Abort p h = refreshed-held p (rowOf (p .state) .abort) (abort-known (p .state) (h .known)) h

@@ -1,8 +1,9 @@
 // A page's two words: word 0 is its record, word 1 its mark.
 ghost use mathlib.Core.Path.{_≡_};
-ghost use Rattle.page.specs.Page.{pageOf, stateIf, written};
+ghost use Rattle.page.specs.Page.{pageOf, stateIf, strange, written};
 use crate::Page;
 use states::State;
+use states::numbers;
 use words::records;
 use words::records::Record;
 
@@ -35,6 +36,17 @@ pub fn page_of(w: PageWords) -> Page
         epoch: p.epoch,
         mark: w.mark,
     }
+}
+
+// Whether that page is strange, by the bits of its record alone.
+pub fn is_strange(w: PageWords) -> bool
+    ensures { λ r. ⌜ r ≡ strange (pageOf w) ⌝ }
+{
+    let word = w.word;
+    let p = records::record_of(word);
+    let plain = records::is_plain(word);
+    let unnamed = numbers::is_strange(p.state);
+    !plain | unnamed
 }
 
 // The words with a page in them; as they were where no record can hold it.

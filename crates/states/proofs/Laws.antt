@@ -7,6 +7,7 @@ use lib.Dec.{eqb, ltb, lit<}
 use borrow.Author.Tests.{eqb-true, ltb-true}
 use Rattle.refusals.proofs.Laws.{either, and-left, and-right}
 use Rattle.states.specs.States.{numberOf, plainStates, numbered, stateOf, same}
+use Rattle.states.specs.Rows.{rowOf}
 use Rattle.states.specs.Lists.{Numbered, numberIn, hinted, operated, listingOf}
 use Rattle.states.specs.declared.State.{State}
 use Rattle.states.specs.declared.State.the-variants.{Free, Blocked, Pending, PendingBlocked, Mapped, Exported, ExportedModified, ExportedBlocked, ExportedRemoved, PendingExported, PendingExportedModified, PendingExportedBlocked, Strange}
@@ -58,6 +59,23 @@ number-state n e = numbered-number plainStates n e
 -- a state that is as good as Strange is Strange
 pub strange-same : (s : State) → same s Strange ≡ true → s ≡ Strange
 strange-same s e = sym (state-number s) ∙ ap stateOf (eqb-true _ _ e) ∙ state-number Strange
+
+-- what an abort makes of a blocked state keeps its stamp, and of no other
+pub abort-stamped : (s : State) → rowOf s .blocked ≡ rowOf (rowOf s .abort) .stamped
+unfolding rowOf
+abort-stamped Free = refl
+abort-stamped Blocked = refl
+abort-stamped Pending = refl
+abort-stamped PendingBlocked = refl
+abort-stamped Mapped = refl
+abort-stamped Exported = refl
+abort-stamped ExportedModified = refl
+abort-stamped ExportedBlocked = refl
+abort-stamped ExportedRemoved = refl
+abort-stamped PendingExported = refl
+abort-stamped PendingExportedModified = refl
+abort-stamped PendingExportedBlocked = refl
+abort-stamped Strange = refl
 
 -- ---- what a list word says of a state fits its run
 

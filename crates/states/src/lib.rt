@@ -6,6 +6,8 @@ use words::states;
 
 // What scans and exports make of a state.
 pub mod lists;
+// What is asked of a state's number.
+pub mod numbers;
 
 pub enum State {
     Free,

@@ -37,7 +37,7 @@ abbrev pub passes : (ℕ → Bool) → ℕ → ℕ → Bool
 passes f lo zero = true
 passes f lo (suc n) = f lo && passes f (suc lo) n
 
-passes-at : (f : ℕ → Bool) (lo n s : ℕ) → T (passes f lo n) → lo ≤ s → s < lo + n → T (f s)
+pub passes-at : (f : ℕ → Bool) (lo n s : ℕ) → T (passes f lo n) → lo ≤ s → s < lo + n → T (f s)
 passes-at f lo zero s t h l = absurd (omega arith)
 passes-at f lo (suc n) s t h l =
     go (both (f lo) (passes f (suc lo) n) t .0) (λ k. passes-at f (suc lo) n s (both (f lo) (passes f (suc lo) n) t .1) k (omega arith)) (eq-or-lt-of-le h)
@@ -48,7 +48,7 @@ passes-at f lo (suc n) s t h l =
 
 -- ---- each number has one class: the one that stands for it
 
-is-true : (b : Bool) → T b → b ≡ true
+pub is-true : (b : Bool) → T b → b ≡ true
 is-true true t = refl
 is-true false t = absurd t
 

@@ -1,26 +1,26 @@
--- Each way out is the definition at the test that led there.
+-- The stamp that is read, or none.
 use borrow.Author.Needs.{needs}
-use Rattle.page.specs.Sweeps.{keptStamp}
-use mathlib.Core.Path.{ap}
-use Rattle.states.specs.declared.Row.{Row}
+use mathlib.Core.Path.{ap, refl}
+use lib.Dec.{lit<}
+use Rattle.words.specs.declared.records.Record.{Record}
 use Rattle.page.proofs.sweeps.kept_stamp.Statement.{statement}
 use Rattle.page.proofs.sweeps.kept_stamp.Tie as tie
 
-row-of-requires : tie.Need-row-of-requires
-row-of-requires c κs = search needs
+record-of-requires : tie.Need-record-of-requires
+record-of-requires c κs = search needs
 
 returns : tie.Need-returns
-unfolding keptStamp
-returns c = rw (← ap (λ (x : Row). x .stamped) (c .before .row-of .ensures), c .if1 .taken)
+returns c =
+    let got = c .before .record-of .ensures in
+    (rw (c .if1 .taken) (ap (λ (r : Record). r .stamp) (got .0)), got .1 .stamp)
 
 returns-2 : tie.Need-returns-2
-unfolding keptStamp
-returns-2 c = rw (← ap (λ (x : Row). x .stamped) (c .before .row-of .ensures), c .if1 .left)
+returns-2 c = (rw (c .if1 .left), lit< tt)
 
 pub kept-stamp-spec : {M : Type 1} → statement M
 kept-stamp-spec =
     tie.close
     (tie.spec
-    row-of-requires
+    record-of-requires
     returns
     returns-2)
