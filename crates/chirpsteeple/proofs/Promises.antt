@@ -18,15 +18,16 @@ use Rattle.session.specs.declared.Phase.the-variants.{Live, Blackout}
 use Rattle.session.specs.declared.Session.{Session}
 use Rattle.scan.specs.Scan.{withinTable, dscanOut, dscanCode, dcheckOut, dcheckCode}
 use Rattle.export.specs.Export.{exportOut, exportCode, exportTests, badLength, otherBuffer}
-use Rattle.calls.specs.Promises.{refusal}
+use Rattle.calls.specs.Promises.{named, refusal}
 use Rattle.calls.specs.declared.Call.{Call}
+use Rattle.calls.proofs.Codes.{answers-named}
 use Rattle.calls.proofs.Promises.{refusal-keeps}
 use Rattle.calls.specs.declared.Call.the-variants.{Dscan, Dcheck, Export}
 use Rattle.wire.specs.Bytes.{wordsOf}
 use Rattle.wire.specs.Sessions.{sessionOf}
 use Rattle.wire.proofs.BytesLaws.{words-length}
 use Rattle.chirpsteeple.specs.Host.{Lent, lentList, lentAll, Left, isList, zeros, entriesOf, accepted, readable, played, hostOf}
-use Rattle.chirpsteeple.specs.Promises.{Untouched, codeAndPage, RefusalWritesNothing, NoLayout, firstGroup, NoList}
+use Rattle.chirpsteeple.specs.Promises.{Untouched, codeAndPage, RefusalWritesNothing, NamedToC, NoLayout, firstGroup, NoList}
 use Rattle.chirpsteeple.proofs.LayoutLaws.{host-played}
 
 -- ---- refusals
@@ -57,6 +58,18 @@ refusal-writes-nothing = record {
   page = λ sound c x. either (λ (l : Left). eqb (l .answer .code) codes.exportedDirtyPagesRemain ≡ false → eqb (l .answer .code) codes.unexportedMemoryRemains ≡ false → l .answer .page ≡ 0) (accepted c x)
       (λ e. played-page sound c _ x)
       (λ e f g. refl);
+}
+
+-- ---- codes
+
+played-named : (sound : Bool) (c : Call) (s : Session) (x : Lent) → named (played sound c s x .answer .code) ≡ true
+unfolding played
+played-named sound c s x = answers-named .code c s (wordsOf (x .table)) (entriesOf sound (x .list)) (entriesOf sound (x .buffer))
+
+pub named-to-c : NamedToC
+unfolding hostOf
+named-to-c = record {
+  code = λ sound c x. either (λ (l : Left). named (l .answer .code) ≡ true) (accepted c x) (λ e. played-named sound c _ x) (λ e. refl);
 }
 
 pub no-layout : NoLayout

@@ -12,7 +12,7 @@ use Rattle.session.specs.Formed.{gated}
 use Rattle.session.specs.declared.Phase.{Phase}
 use Rattle.session.specs.declared.Phase.the-variants.{Live, Blackout}
 use Rattle.session.specs.declared.Session.{Session}
-use Rattle.calls.specs.Promises.{refusal}
+use Rattle.calls.specs.Promises.{named, refusal}
 use Rattle.calls.specs.declared.Call.{Call}
 use Rattle.wire.specs.Bytes.{wordsOf}
 use Rattle.wire.specs.Sessions.{sessionOf}
@@ -35,6 +35,10 @@ pub record RefusalWritesNothing : Type 0 where
   pub all : (sound : Bool) (c : Call) (x : Lent) → refusal (hostOf sound c x .answer .code) ≡ true → Untouched x (hostOf sound c x)
   pub answer : (sound : Bool) (c : Call) (x : Lent) → refusal (hostOf sound c x .answer .code) ≡ true → hostOf sound c x .answer ≡ codeAndPage (hostOf sound c x .answer .code) (hostOf sound c x .answer .page)
   pub page : (sound : Bool) (c : Call) (x : Lent) → eqb (hostOf sound c x .answer .code) codes.exportedDirtyPagesRemain ≡ false → eqb (hostOf sound c x .answer .code) codes.unexportedMemoryRemains ≡ false → hostOf sound c x .answer .page ≡ 0
+
+-- any bytes and any numbers get one of document 01's codes
+pub record NamedToC : Type 0 where
+  pub code : (sound : Bool) (c : Call) (x : Lent) → named (hostOf sound c x .answer .code) ≡ true
 
 -- bytes that fit no layout are 40
 pub record NoLayout : Type 0 where
