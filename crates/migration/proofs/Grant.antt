@@ -76,18 +76,18 @@ ready-gives p r = ⊎-elim (free-gives p) (λ x. sent-gives p (x .0) (x .1)) (r 
 
 -- ---- the session
 
-paused-is : (p : Phase) → among (Blackout ∷ []) p ≡ true → p ≡ Blackout
+pub paused-is : (p : Phase) → among (Blackout ∷ []) p ≡ true → p ≡ Blackout
 paused-is Idle e = absurd (false≢true e)
 paused-is Live e = absurd (false≢true e)
 paused-is Blackout e = refl
 paused-is Done e = absurd (false≢true e)
 
-resting-is : (r : Run) → runResting r ≡ true → r ≡ AtRest
+pub resting-is : (r : Run) → runResting r ≡ true → r ≡ AtRest
 resting-is AtRest e = refl
 resting-is (Interrupted next last errors pages) e = absurd (false≢true e)
 
 module _ (s : Session) (t : List ℕ) where
-  code-granted : tokenCode s t ≡ 0 → tokenOut s t .token ≡ Granted
+  pub code-granted : tokenCode s t ≡ 0 → tokenOut s t .token ≡ Granted
   unfolding tokenOut tokenFor
   code-granted e = rw e
 

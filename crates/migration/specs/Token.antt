@@ -1,6 +1,6 @@
 -- The start token.
 use mathlib.Core.Bool.{cond, not, _||_}
-use mathlib.Core.List.{List, [], _∷_}
+use mathlib.Core.List.{List, [], _∷_, _++_}
 use Prim.Native.Nat.{ℕ}
 use lib.Dec.{eqb}
 use lib.ListN.{length}
@@ -34,14 +34,11 @@ tokenGate s =
     ∷ not (s .check .complete) gives codes.memScanDcheckNotDone
     ∷ []
 
--- 43, 52, 53, 54
+-- then 53, 54
 abbrev pub tokenTests : Session → List ℕ → List Test
 tokenTests s t =
-    busy s gives codes.operandBusy
-    ∷ not (s .check .complete) gives codes.memScanDcheckNotDone
-    ∷ some gives53 t gives codes.exportedDirtyPagesRemain
-    ∷ some gives54 t gives codes.unexportedMemoryRemains
-    ∷ []
+    tokenGate s
+    ++ (some gives53 t gives codes.exportedDirtyPagesRemain ∷ some gives54 t gives codes.unexportedMemoryRemains ∷ [])
 
 unfoldable pub tokenCode : Session → List ℕ → ℕ
 tokenCode s t = gated s (length t) (Blackout ∷ []) (tokenTests s t)

@@ -64,7 +64,7 @@ no-landing : (z : State) → z ≡ Strange → rowOf z .landing ≡ false
 unfolding rowOf
 no-landing z e = rw e
 
-move-known : (to : State) → eqb (moveCode to) 0 ≡ true → rowOf to .strange ≡ false
+pub move-known : (to : State) → eqb (moveCode to) 0 ≡ true → rowOf to .strange ≡ false
 unfolding moveCode
 move-known to = by (rowOf to .strange)
   where
@@ -72,7 +72,7 @@ move-known to = by (rowOf to .strange)
     by true e = absurd (false≢true e)
     by false e = refl
 
-leave-known : (to : State) (stamp tlb : ℕ) → eqb (leaveCode to stamp tlb) 0 ≡ true → rowOf to .strange ≡ false
+pub leave-known : (to : State) (stamp tlb : ℕ) → eqb (leaveCode to stamp tlb) 0 ≡ true → rowOf to .strange ≡ false
 unfolding leaveCode
 leave-known to stamp tlb = by (rowOf to .strange)
   where

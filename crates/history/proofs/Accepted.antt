@@ -1,0 +1,130 @@
+-- What a call makes of the session when its code is 0: the tests that it has passed are what its new session needs (`Sessions`).
+use mathlib.Core.Path.{_≡_, refl, ap, _∙_}
+use mathlib.Core.Bool.{Bool, true, not, false≢true}
+use mathlib.Core.List.{List, [], _∷_}
+use Prim.Native.Nat.{ℕ, zero, suc, _+_, _-_, _/_, _≤_, _<_}
+use native.Mathlib.Omega.{arith}
+use lib.Dec.{eqb, ltb, leb}
+use lib.ListN.{length}
+use borrow.Author.Tests.{le-leb, ltb-true, ltb-false, eqb-true}
+use Rattle.words.specs.Codes as codes
+use Rattle.words.specs.Info.{infoOf}
+use Rattle.refusals.specs.Refusals.{_gives_}
+use Rattle.refusals.proofs.Laws.{either, passed, first-all, not-false}
+use Rattle.table.specs.Table.{legal, wordsAt}
+use Rattle.table.proofs.Laws.{put-length}
+use Rattle.session.specs.Session.{moving, streamPlaces, newSession, withPhase, withEpoch, runOf}
+use Rattle.session.specs.Formed.{fewestCreated, mostCreated, lastEntry, within, usable}
+use Rattle.session.specs.declared.Phase.the-variants.{Live, Blackout, Done}
+use Rattle.session.specs.declared.Session.{Session}
+use Rattle.session.specs.declared.streams.Run.the-variants.{AtRest, Interrupted}
+use Rattle.session.proofs.Laws.{gate-open}
+use Rattle.session.proofs.FormedLaws.{Formed, formed-means}
+use Rattle.memory.specs.Memory.{newCode}
+use Rattle.migration.specs.Migration.{pauseCode, newEpochTests, newEpochCode}
+use Rattle.migration.specs.Token.{tokenTests, tokenCode}
+use Rattle.migration.proofs.Laws.{epoch-room}
+use Rattle.scan.specs.Look.{lookOf}
+use Rattle.scan.specs.Scan.{stopTests, stopCode, ScanOut, scanRun, partOf, rangeRun, checkedBy, dcheckTests, dcheckCode, dcheckOf}
+use Rattle.scan.specs.declared.Scan.{Scan}
+use Rattle.scan.specs.declared.Scanned.{Scanned}
+use Rattle.scan.proofs.Outcomes.{dchecked}
+use Rattle.entry.specs.declared.Ground.{Ground}
+use Rattle.export.specs.Run.{Standing, standing, placeOf, taking, wordsAfter, stepped, exportRun}
+use Rattle.export.specs.Export.{exportTests, exportCode, groundOf, begunBy, finishedBy}
+use Rattle.export.specs.declared.ExportAnswer.{ExportAnswer}
+use Rattle.export.proofs.Laws.{Bounds, run-bounds, export-ready}
+use Rattle.export.proofs.Moves.{exported}
+use Rattle.history.proofs.Sessions.{pause-formed, epoch-formed, check-formed, token-formed, run-formed, new-formed}
+
+-- ---- New
+
+pub new-made : (len created : ℕ) → newCode len created ≡ 0 → Formed (newSession (len / 2) created) len
+unfolding newCode
+new-made len created e =
+    let p = passed (not (legal len) gives codes.malformed ∷ not (within fewestCreated mostCreated created) gives codes.operandInvalid ∷ []) refl e in
+    new-formed len created (not-false (legal len) (p .0)) (not-false (within fewestCreated mostCreated created) (p .1 .0))
+
+-- ---- the session calls
+
+module _ (s : Session) (t : List ℕ) where
+  pub pause-made : pauseCode s t ≡ 0 → Formed (withPhase s Blackout) (length t)
+  unfolding pauseCode
+  pause-made e =
+      let o = gate-open s (length t) (Live ∷ []) _ refl e in pause-formed (formed-means s (length t) (o .formed)) (o .comes)
+
+  pub epoch-made : newEpochCode s (length t) ≡ 0 → Formed (withEpoch s (s .epoch + 1)) (length t)
+  unfolding newEpochCode
+  epoch-made e =
+      let o = gate-open s (length t) moving (newEpochTests s) refl e in
+      epoch-formed (formed-means s (length t) (o .formed)) (o .comes) (epoch-room s (length t) e)
+
+  pub token-made : tokenCode s t ≡ 0 → Formed (withPhase s Done) (length t)
+  unfolding tokenCode
+  token-made e =
+      let o = gate-open s (length t) (Blackout ∷ []) (tokenTests s t) refl e in
+      token-formed (formed-means s (length t) (o .formed)) (o .comes) (o .passed .0)
+
+-- ---- a DCHECK
+
+-- a run comes at most to its end, and answers 3 there alone
+record Comes (end : ℕ) (g : Scanned) : Type 0 where
+  next : g .next ≤ end
+  complete : g .code ≡ codes.checkComplete → g .next ≡ end
+
+run-comes : (n : ℕ) (scan : Scan) (i put : ℕ) (part list : List ℕ) → Comes (scan .first + i + n) (scanRun n scan i put part list .scanned)
+unfolding scanRun stopCode
+run-comes zero scan i put part list = record { next = omega arith; complete = λ q. omega arith }
+run-comes (suc n) scan i put part list =
+    let f = lookOf (wordsAt part i) (scan .first + i) (scan .tlb) in
+    let there : scan .first + (i + 1) + n ≡ scan .first + i + suc n = omega arith in
+    let other : not (eqb (stopCode scan f i put (length list)) codes.checkComplete) ≡ true
+    = first-all (λ (m : ℕ). not (eqb m codes.checkComplete)) (stopTests scan f i put (length list)) refl refl in
+    either (λ (o : ScanOut). Comes (scan .first + i + suc n) (o .scanned)) (eqb (stopCode scan f i put (length list)) 0)
+    (λ e. rw (← there) (run-comes n scan (i + 1) _ _ _))
+    (λ e. record { next = omega arith; complete = λ q. absurd (false≢true (rw q at other)) })
+
+pub check-made : (s : Session) (t l : List ℕ) (budget : ℕ) → dcheckCode s (length t) (length l) ≡ 0 → Formed (checkedBy s (dchecked s t l budget .scanned)) (length t)
+unfolding dcheckCode rangeRun checkedBy
+check-made s t l budget e =
+    let o = gate-open s (length t) (Blackout ∷ []) (dcheckTests s (length l)) refl e in
+    let f = formed-means s (length t) (o .formed) in
+    let g = dchecked s t l budget .scanned in
+    let count = s .pages - s .check .place in
+    let c = run-comes count (dcheckOf s budget) 0 0 (partOf t (s .check .place) count) l in
+    let end : s .check .place + 0 + count ≡ s .pages = omega (arith, f .place) in
+    check-formed f (checkedBy s g .check)
+    (record {
+      place = omega (arith, c .next, end);
+      complete = λ q. c .complete (eqb-true _ _ q) ∙ end;
+      apart = λ q. ap (λ (n : ℕ). eqb n codes.memScanFailedBlockedRange) (eqb-true (g .code) codes.checkComplete q);
+    })
+
+-- ---- an export
+
+pub export-length : (g : Ground) (last budget : ℕ) (x : Standing) → length (exportRun g last budget x .table) ≡ length (x .table)
+unfolding exportRun stepped
+export-length g last zero x = refl
+export-length g last (suc budget) x =
+    either (λ (y : Standing). length (y .table) ≡ length (x .table)) (leb (x .at .next) last)
+    (λ q. export-length g last budget (stepped g x) ∙ put-length (x .table) (placeOf x) (wordsAfter (wordsAt (x .table) (placeOf x)) (taking g x)))
+    (λ q. refl)
+
+-- the stream is at rest at the end of the list, and else at an entry up to LAST
+pub export-made : (s : Session) (t l b : List ℕ) (stream : ℕ) (resume : Bool) (info budget : ℕ) → exportCode s (length t) (length l) (length b) stream resume (infoOf info) ≡ 0 → Formed (finishedBy s stream (infoOf info) (exported s t l b stream info budget .at) .session) (length t)
+unfolding exportCode finishedBy
+export-made s t l b stream resume info budget e =
+    let x = infoOf info in
+    let o = gate-open s (length t) moving (exportTests s (length l) (length b) stream resume x) refl e in
+    let f = formed-means s (length t) (o .formed) in
+    let able : usable s stream ≡ true = not-false (usable s stream) (o .passed .0) in
+    let low : stream < streamPlaces = omega (arith, ltb-true (stream + 1) (s .created) able, f .created .high) in
+    let r = export-ready s (length t) (length l) (length b) stream resume x e in
+    let at = exported s t l b stream info budget .at in
+    let m : Bounds (x .last) at
+    = run-bounds (groundOf s) (x .last) budget (standing (begunBy (runOf s stream)) t l b) (record { next = omega (arith, r .ordered); counts = r .counts }) in
+    either (λ (a : ExportAnswer). Formed (a .session) (length t)) (ltb (x .last) (at .next))
+    (λ q. run-formed f stream low AtRest refl)
+    (λ q.
+    run-formed f stream low (Interrupted (at .next) (x .last) (at .errors) (at .pages))
+    (rw (o .comes, able, le-leb (at .next) (x .last) (ltb-false _ _ q), le-leb (x .last) lastEntry (r .short), le-leb (at .errors) (at .next) (m .counts .errors), le-leb (at .pages) (at .next) (m .counts .pages)) refl))

@@ -1,0 +1,150 @@
+-- The entries of a list in turn, in Blackout: each takes from what waits the page that it names, and the words behind it stay as they were.
+use mathlib.Core.Path.{_≡_, sym, ap, _∙_, subst}
+use mathlib.Core.Logic.{_⊎_, inl, inr, ⊎-elim}
+use mathlib.Core.List.{List, [], _∷_, List·Memᴰ, List·Memᴰ·not-nil, List·Memᴰ·cases-cons}
+use Prim.Native.Nat.{ℕ, zero, suc, _+_, _/_, _≤_, _<_}
+use native.Mathlib.Omega.{arith}
+use native.Mathlib.Decide.{ℕ-discrete}
+use lib.Dec.{leb}
+use lib.ListN.{length, getD, set, length-set}
+use lib.Seq.{getD-set-other}
+use borrow.Author.Tests.{leb-false}
+use Rattle.words.specs.Record.{room}
+use Rattle.refusals.proofs.Laws.{either}
+use Rattle.page.specs.Page.{pageOf}
+use Rattle.page.specs.declared.Page.{Page}
+use Rattle.table.specs.Table.{pageCount, wordsAt, pageAt}
+use Rattle.table.proofs.Laws.{put-length}
+use Rattle.session.specs.declared.Phase.the-variants.{Blackout}
+use Rattle.migration.specs.Grant.{Ready}
+use Rattle.entry.specs.declared.Ground.{Ground}
+use Rattle.export.specs.Run.{Standing, wordOf, placeOf, taking, wordsAfter, counted, stepped, exportRun}
+use Rattle.export.proofs.Moves.{step-page, step-other}
+use Rattle.history.proofs.Waiting.{Names, Due, Listed}
+use Rattle.history.proofs.Turns.{ready-stays, due-either, due-taken}
+
+-- an entry from `next` on names page i, or one of another list does
+abbrev pub Ahead : List ℕ → ℕ → List (List ℕ) → ℕ → Type 0
+Ahead l next rest i = ((j : ℕ) × (next ≤ j) × (j < length l) × Names (getD l j 0) i) ⊎ Listed rest i
+
+-- a page is ready, or it is due and something holds of it
+abbrev pub Waits : Type 0 → ℕ → Page → Type 0
+Waits A epoch p = Ready p ⊎ (Due p × (p .epoch < epoch) × A)
+
+pub waits-map : {A B : Type 0} (epoch : ℕ) (p : Page) → (A → B) → Waits A epoch p → Waits B epoch p
+waits-map epoch p f (inl r) = inl r
+waits-map epoch p f (inr x) = inr (x .0, x .1, f (x .2))
+
+-- ---- a list before its first entry, and behind its last one
+
+place-of : (word : ℕ) (l : List ℕ) → List·Memᴰ word l → (j : ℕ) × (j < length l) × (getD l j 0 ≡ word)
+place-of word [] m = absurd (List·Memᴰ·not-nil m)
+place-of word (x ∷ l) m =
+    ⊎-elim (λ e. (0, omega arith, sym e)) (λ n. let r = place-of word l n in (suc (r .0), omega (arith, r .1), r .2)) (List·Memᴰ·cases-cons m)
+
+pub listed-ahead : (l : List ℕ) (rest : List (List ℕ)) (i : ℕ) → Listed (l ∷ rest) i → Ahead l 0 rest i
+listed-ahead l rest i x = ⊎-elim here (λ m. inr (x .0, m, x .2)) (List·Memᴰ·cases-cons (x .1))
+  where
+    here : x .0 ≡ l → Ahead l 0 rest i
+    here e =
+        let at = place-of (x .2 .0) (x .0) (x .2 .1) in
+        rw (← e) (inl (at .0, omega arith, at .1, subst (λ (word : ℕ). Names word i) (sym (at .2)) (x .2 .2)))
+
+pub behind-listed : (l : List ℕ) (next : ℕ) (rest : List (List ℕ)) (i : ℕ) → length l ≤ next → Ahead l next rest i → Listed rest i
+behind-listed l next rest i h (inl x) = absurd (omega (arith, x .1, x .2))
+behind-listed l next rest i h (inr x) = x
+
+-- ---- in between
+
+-- the lengths stay, and every page is ready or ahead
+pub record Along (epoch : ℕ) (rest : List (List ℕ)) (words entries : ℕ) (s : Standing) : Type 0 where
+  pub table : length (s .table) ≡ words
+  pub list : length (s .list) ≡ entries
+  pub buffer : length (s .buffer) ≡ entries
+  pub waits : (i : ℕ) → i < words / 2 → Waits (Ahead (s .list) (s .at .next) rest i) epoch (pageAt (s .table) i)
+
+module _ (g : Ground) (paused : g .phase ≡ Blackout) (fits : g .epoch < room) (rest : List (List ℕ)) (words entries : ℕ) (pages : g .pages ≡ words / 2) where
+  module _ (s : Standing) (a : Along (g .epoch) rest words entries s) where
+    inside : (i : ℕ) → i < words / 2 → i < pageCount (s .table)
+    inside i h = rw (a .table) h
+
+    -- a page that an entry does not name
+    page-apart : (i : ℕ) → (i ≡ placeOf s → ⊥) → pageAt (stepped g s .table) i ≡ pageAt (s .table) i
+    page-apart i ne = ap pageOf (step-other g s i ne)
+
+    page-named : (i : ℕ) → i < words / 2 → i ≡ placeOf s → pageAt (stepped g s .table) i ≡ taking g s .page
+    page-named i h e =
+        ap (pageAt (stepped g s .table)) e ∙ step-page g s fits (subst (λ (k : ℕ). k < pageCount (s .table)) e (inside i h))
+
+    ready-step : (i : ℕ) → i < words / 2 → Ready (pageAt (s .table) i) → Ready (pageAt (stepped g s .table) i)
+    ready-step i h r = elim (ℕ-discrete i (placeOf s)) [ yes e ↦ named e | no ne ↦ subst Ready (sym (page-apart i ne)) r ]
+      where
+        named : i ≡ placeOf s → Ready (pageAt (stepped g s .table) i)
+        named e =
+            let there : Ready (pageAt (s .table) (placeOf s)) = subst (λ (k : ℕ). Ready (pageAt (s .table) k)) e r in
+            subst Ready (sym (page-named i h e ∙ ready-stays (wordOf s) (pageAt (s .table) (placeOf s)) g there)) there
+
+    due-step : (i : ℕ) → i < words / 2 → Due (pageAt (s .table) i) → (pageAt (stepped g s .table) i ≡ pageAt (s .table) i) ⊎ Ready (pageAt (stepped g s .table) i)
+    due-step i h d = elim (ℕ-discrete i (placeOf s)) [ yes e ↦ named e | no ne ↦ inl (page-apart i ne) ]
+      where
+        named : i ≡ placeOf s → (pageAt (stepped g s .table) i ≡ pageAt (s .table) i) ⊎ Ready (pageAt (stepped g s .table) i)
+        named e =
+            ⊎-elim
+            (λ q. inl (page-named i h e ∙ q ∙ ap (pageAt (s .table)) (sym e)))
+            (λ r. inr (subst Ready (sym (page-named i h e)) r))
+            (due-either (wordOf s) (pageAt (s .table) (placeOf s)) g (subst (λ (k : ℕ). Due (pageAt (s .table) k)) e d))
+
+    -- the entry whose turn it is names the page
+    due-now : (i : ℕ) → i < words / 2 → Names (wordOf s) i → Due (pageAt (s .table) i) → pageAt (s .table) i .epoch < g .epoch → Ready (pageAt (stepped g s .table) i)
+    due-now i h names d older =
+        let e : i ≡ placeOf s = sym (names .page) in
+        subst Ready (sym (page-named i h e))
+        (due-taken (wordOf s) i (pageAt (s .table) (placeOf s)) g paused names (rw pages h)
+        (subst (λ (k : ℕ). Due (pageAt (s .table) k)) e d)
+        (subst (λ (k : ℕ). pageAt (s .table) k .epoch < g .epoch) e older))
+
+    abbrev After : ℕ → Type 0
+    After i = Ahead (set (s .list) (s .at .next) (taking g s .word)) (s .at .next + 1) rest i
+
+    waits-step : (i : ℕ) → i < words / 2 → Waits (Ahead (s .list) (s .at .next) rest i) (g .epoch) (pageAt (s .table) i) → Waits (After i) (g .epoch) (pageAt (stepped g s .table) i)
+    waits-step i h (inl r) = inl (ready-step i h r)
+    waits-step i h (inr x) = ⊎-elim here (λ y. later (inr y)) (x .2)
+      where
+        later : After i → Waits (After i) (g .epoch) (pageAt (stepped g s .table) i)
+        later y =
+            ⊎-elim
+            (λ q. inr (subst Due (sym q) (x .0), subst (λ (p : Page). p .epoch < g .epoch) (sym q) (x .1), y))
+            (λ r. inl r)
+            (due-step i h (x .0))
+
+        here : (j : ℕ) × (s .at .next ≤ j) × (j < length (s .list)) × Names (getD (s .list) j 0) i → Waits (After i) (g .epoch) (pageAt (stepped g s .table) i)
+        here y =
+            elim (ℕ-discrete (y .0) (s .at .next)) [
+              | yes e ↦ inl (due-now i h (subst (λ (k : ℕ). Names (getD (s .list) k 0) i) e (y .3)) (x .0) (x .1))
+              | no ne ↦ later (inl (y .0, omega (arith, y .1, ne), rw (length-set (s .list) (s .at .next) (taking g s .word)) (y .2), rw (getD-set-other (s .list) (s .at .next) (y .0) (taking g s .word) 0 ne) (y .3)))
+            ]
+
+  along-step : (s : Standing) → Along (g .epoch) rest words entries s → Along (g .epoch) rest words entries (stepped g s)
+  unfolding stepped counted
+  along-step s a =
+      record {
+        table = put-length (s .table) (placeOf s) (wordsAfter (wordsAt (s .table) (placeOf s)) (taking g s)) ∙ a .table;
+        list = length-set (s .list) (s .at .next) (taking g s .word) ∙ a .list;
+        buffer = length-set (s .buffer) (s .at .next) (taking g s .buffer) ∙ a .buffer;
+        waits = λ i h. waits-step s a i h (a .waits i h);
+      }
+
+  pub along-run : (last budget : ℕ) (s : Standing) → Along (g .epoch) rest words entries s → Along (g .epoch) rest words entries (exportRun g last budget s)
+  unfolding exportRun
+  along-run last zero s a = a
+  along-run last (suc budget) s a =
+      either (Along (g .epoch) rest words entries) (leb (s .at .next) last) (λ q. along-run last budget (stepped g s) (along-step s a)) (λ q. a)
+
+-- the budget is used up, or the list is at its end
+pub run-far : (g : Ground) (last budget : ℕ) (s : Standing) → (s .at .next + budget ≤ exportRun g last budget s .at .next) ⊎ (last < exportRun g last budget s .at .next)
+unfolding exportRun stepped counted
+run-far g last zero s = inl (omega arith)
+run-far g last (suc budget) s =
+    either (λ (x : Standing). (s .at .next + suc budget ≤ x .at .next) ⊎ (last < x .at .next)) (leb (s .at .next) last)
+    (λ q. ⊎-elim (λ k. inl (omega (arith, k))) (λ k. inr k) (run-far g last budget (stepped g s)))
+    (λ q. inr (leb-false _ _ q))

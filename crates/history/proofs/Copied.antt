@@ -1,0 +1,162 @@
+-- From a pause to the grant the guest's memory is the copy that the pause took: its own calls are refused in Blackout and in Done, and only a pause and the
+-- token lead there.
+use mathlib.Core.Path.{_≡_, refl, sym, subst}
+use mathlib.Core.Bool.{Bool, true, false, cond, false≢true}
+use mathlib.Core.List.{List, [], _∷_}
+use Prim.Native.Nat.{ℕ, _+_}
+use lib.Dec.{eqb, ltb}
+use lib.ListN.{length, replicate}
+use borrow.Author.Tests.{eqb-true}
+use Rattle.words.specs.Info.{infoOf}
+use Rattle.refusals.proofs.Laws.{either}
+use Rattle.page.specs.Sweeps.{uncached, started, aborted, sweptWords}
+use Rattle.page.specs.declared.moves.Move.{Move}
+use Rattle.page.specs.declared.moves.Move.the-variants as move
+use Rattle.table.specs.Table.{pageCount, wordsAt, putAt, sweepOf}
+use Rattle.session.specs.Session.{streamPlaces, among, guest, newSession, withTlb, withPhase, withEpoch, withCheck, withRun, unchecked, begun}
+use Rattle.session.specs.Outcome.{Outcome, answered}
+use Rattle.session.specs.declared.streams.Run.{Run}
+use Rattle.session.specs.declared.Phase.{Phase}
+use Rattle.session.specs.declared.Phase.the-variants.{Idle, Live, Blackout, Done}
+use Rattle.session.specs.declared.Session.{Session}
+use Rattle.session.proofs.Laws.{answered-either, gate-open}
+use Rattle.memory.specs.Memory.{newCode, newOut, pageTurn, onPage, writeOut, addOut, acceptOut, blockOut, unblockOut, removeOut, trackCode, trackOut}
+use Rattle.migration.proofs.Grant.{paused-is}
+use Rattle.migration.specs.Migration.{startCode, startOut, pauseCode, pauseOut, abortCode, abortOut, newEpochCode, newEpochOut, resetCode, resetOut}
+use Rattle.migration.specs.Token.{tokenTests, tokenCode, tokenOut}
+use Rattle.scan.specs.Scan.{answerOf, checkedBy, ScanOutcome, dscanOut, dcheckOut}
+use Rattle.scan.specs.declared.Scanned.{Scanned}
+use Rattle.scan.specs.declared.ScanAnswer.{ScanAnswer}
+use Rattle.scan.proofs.Outcomes.{dscanned, dscan-either, dchecked, dcheck-either}
+use Rattle.export.specs.Export.{finishedBy, ExportOutcome, exportOut}
+use Rattle.export.specs.declared.ExportAnswer.{ExportAnswer}
+use Rattle.export.proofs.Moves.{exported, export-either}
+use Rattle.calls.specs.Calls.{Effect}
+use Rattle.calls.specs.declared.Call.{Call}
+use Rattle.calls.specs.declared.Call.the-variants.{New, Write, Add, Accept, Block, Unblock, Remove, Track, Start, Pause, Abort, NewEpoch, Reset, StartToken, Dscan, Dcheck, Export}
+use Rattle.bundle.specs.Bundle.{Holding, absent, holds, nothing}
+use Rattle.history.specs.History.{Given, given, World, effectIn, accepted, holding, after, run}
+use Rattle.history.proofs.Contents.{call-done}
+
+-- the guest does not run
+abbrev pub Stopped : Phase → Type 0
+Stopped Idle = ⊥
+Stopped Live = ⊥
+Stopped Blackout = Unit
+Stopped Done = Unit
+
+-- while it does not, the copy is its memory
+abbrev pub Copied : Phase → (ℕ → Holding) → (ℕ → Holding) → Type 0
+Copied p m c = Stopped p → (i : ℕ) → m i ≡ c i
+
+guest-runs : (p : Phase) → among guest p ≡ true → Stopped p → ⊥
+guest-runs Idle e x = x
+guest-runs Live e x = x
+guest-runs Blackout e x = false≢true e
+guest-runs Done e x = false≢true e
+
+-- neither is noted anew
+uncopied : (e : Effect) (m c : ℕ → Holding) → Copied (e .returned .session .phase) m c → Copied (e .returned .session .phase) (cond (accepted e) m m) (cond (accepted e) c c)
+uncopied e m c h =
+    either (λ (n : ℕ → Holding). Copied (e .returned .session .phase) n (cond (accepted e) c c)) (accepted e) (λ q. rw q h) (λ q. rw q h)
+
+-- by answers: memory and copy as they come with one that is done, and as they were with a refusal
+module _ (code : ℕ) (s : Session) (t : List ℕ) (s' : Session) (t' : List ℕ) (m m' c c' : ℕ → Holding) where
+  answered-copied : Copied (s .phase) m c → (eqb (answered code s t s' t' .answer .code) 0 ≡ true → Copied (s' .phase) m' c') → Copied (answered code s t s' t' .answer .session .phase) (cond (eqb (answered code s t s' t' .answer .code) 0) m' m) (cond (eqb (answered code s t s' t' .answer .code) 0) c' c)
+  answered-copied h =
+      answered-either (λ (o : Outcome). (eqb (o .answer .code) 0 ≡ true → Copied (s' .phase) m' c') → Copied (o .answer .session .phase) (cond (eqb (o .answer .code) 0) m' m) (cond (eqb (o .answer .code) 0) c' c)) code s t s' t'
+      (λ q f. rw q (f q))
+      (λ q f. rw q h)
+
+-- a call on a page is refused while the guest does not run
+page-copied : (k : Move) (s : Session) (t : List ℕ) (at : ℕ) (m m' c : ℕ → Holding) → Copied (s .phase) m c → Copied (onPage k s t at .answer .session .phase) (cond (eqb (onPage k s t at .answer .code) 0) m' m) (cond (eqb (onPage k s t at .answer .code) 0) c c)
+unfolding onPage
+page-copied k s t at m m' c h =
+    let turn = pageTurn k s (length t) at (wordsAt t at) in
+    answered-copied (turn .code) s t s (putAt t at (turn .words)) m m' c c h (λ e x. absurd (guest-runs (s .phase) (call-done k s t at e .0) x))
+
+-- the token comes to a paused guest
+pub token-paused : (s : Session) (t : List ℕ) → eqb (tokenCode s t) 0 ≡ true → Stopped (s .phase)
+unfolding tokenCode
+token-paused s t e =
+    subst Stopped (sym (paused-is (s .phase) (gate-open s (length t) (Blackout ∷ []) (tokenTests s t) refl (eqb-true _ _ e) .comes))) tt
+
+token-copied : (s : Session) (t : List ℕ) (m c : ℕ → Holding) → Copied (s .phase) m c → Copied (tokenOut s t .session .phase) m c
+unfolding tokenOut
+token-copied s t m c h =
+    either (λ (s' : Session). Copied (s' .phase) m c) (eqb (tokenCode s t) 0) (λ q x. h (token-paused s t q)) (λ q. h)
+
+-- scans and exports leave the phase
+scan-phase : (g : Scanned) (s : Session) → answerOf g s .session .phase ≡ s .phase
+unfolding answerOf
+scan-phase g s = either (λ (a : ScanAnswer). a .session .phase ≡ s .phase) (eqb (g .put) 0) (λ q. refl) (λ q. refl)
+
+dscan-phase : (s : Session) (t l : List ℕ) (first count budget : ℕ) → dscanOut s t l first count budget .answer .session .phase ≡ s .phase
+dscan-phase s t l first count budget =
+    dscan-either s t l first count budget (λ (o : ScanOutcome). o .answer .session .phase ≡ s .phase)
+    (λ z. scan-phase (dscanned s t l first count budget .scanned) s)
+    refl
+
+dcheck-phase : (s : Session) (t l : List ℕ) (budget : ℕ) → dcheckOut s t l budget .answer .session .phase ≡ s .phase
+unfolding checkedBy
+dcheck-phase s t l budget =
+    dcheck-either s t l budget (λ (o : ScanOutcome). o .answer .session .phase ≡ s .phase)
+    (λ z. scan-phase (dchecked s t l budget .scanned) (checkedBy s (dchecked s t l budget .scanned)))
+    refl
+
+run-phase : (s : Session) (i : ℕ) (r : Run) → withRun s i r .phase ≡ s .phase
+unfolding withRun
+run-phase s i r = either (λ (x : Session). x .phase ≡ s .phase) (ltb i streamPlaces) (λ q. refl) (λ q. refl)
+
+export-phase : (s : Session) (t l b : List ℕ) (stream : ℕ) (resume : Bool) (info budget : ℕ) → exportOut s t l b stream resume info budget .answer .session .phase ≡ s .phase
+unfolding finishedBy
+export-phase s t l b stream resume info budget =
+    let at = exported s t l b stream info budget .at in
+    export-either (λ (o : ExportOutcome). o .answer .session .phase ≡ s .phase) s t l b stream resume info budget
+    (either (λ (a : ExportAnswer). a .session .phase ≡ s .phase) (ltb (infoOf info .last) (at .next)) (λ q. run-phase s stream _) (λ q. run-phase s stream _))
+    refl
+
+module _ (w : World) (l b : List ℕ) (h : Copied (w .session .phase) (w .memory) (w .copy)) where
+  abbrev s : Session
+  s = w .session
+
+  abbrev t : List ℕ
+  t = w .table
+
+  abbrev left : Call → Effect
+  left c = effectIn w (given c l b)
+
+  call-copied : (c : Call) → Copied (after w (given c l b) .session .phase) (after w (given c l b) .memory) (after w (given c l b) .copy)
+  unfolding newOut writeOut addOut acceptOut blockOut unblockOut removeOut trackOut startOut pauseOut abortOut newEpochOut resetOut
+  call-copied (New created) =
+      answered-copied (newCode (length t) created) s t (newSession (pageCount t) created) (replicate (length t) 0) (w .memory) nothing (w .copy) (w .copy) h (λ e x. absurd x)
+  call-copied (Write page mark) = page-copied (move.Write mark) s t page (w .memory) (holding (w .memory) page (holds false mark)) (w .copy) h
+  call-copied (Add page) = page-copied move.Add s t page (w .memory) (holding (w .memory) page (holds true 0)) (w .copy) h
+  call-copied (Accept page) = page-copied move.Accept s t page (w .memory) (holding (w .memory) page (holds false 0)) (w .copy) h
+  call-copied (Block page) = page-copied move.Block s t page (w .memory) (w .memory) (w .copy) h
+  call-copied (Unblock page) = page-copied move.Unblock s t page (w .memory) (w .memory) (w .copy) h
+  call-copied (Remove page) = page-copied move.Remove s t page (w .memory) (holding (w .memory) page absent) (w .copy) h
+  call-copied Track =
+      answered-copied (trackCode s (length t)) s t (withTlb s (s .tlb + 1)) (sweepOf (sweptWords uncached) (pageCount t) t) (w .memory) (w .memory) (w .copy) (w .copy) h (λ e. h)
+  call-copied Start =
+      answered-copied (startCode s t) s t (begun s Live 1) (sweepOf (sweptWords started) (pageCount t) t) (w .memory) (w .memory) (w .copy) (w .copy) h (λ e x. absurd x)
+  call-copied Pause =
+      answered-copied (pauseCode s t) s t (withPhase s Blackout) (sweepOf (sweptWords uncached) (pageCount t) t) (w .memory) (w .memory) (w .copy) (w .memory) h (λ e x i. refl)
+  call-copied Abort =
+      answered-copied (abortCode s t) s t (begun s Idle 0) (sweepOf (sweptWords aborted) (pageCount t) t) (w .memory) (w .memory) (w .copy) (w .copy) h (λ e x. absurd x)
+  call-copied NewEpoch =
+      answered-copied (newEpochCode s (length t)) s t (withEpoch s (s .epoch + 1)) t (w .memory) (w .memory) (w .copy) (w .copy) h (λ e. h)
+  call-copied Reset =
+      answered-copied (resetCode s (length t)) s t (withCheck s unchecked) t (w .memory) (w .memory) (w .copy) (w .copy) h (λ e. h)
+  call-copied StartToken =
+      uncopied (left StartToken) (w .memory) (w .copy) (token-copied s t (w .memory) (w .copy) h)
+  call-copied (Dscan first count budget) =
+      uncopied (left (Dscan first count budget)) (w .memory) (w .copy) (rw (dscan-phase s t l first count budget) h)
+  call-copied (Dcheck budget) =
+      uncopied (left (Dcheck budget)) (w .memory) (w .copy) (rw (dcheck-phase s t l budget) h)
+  call-copied (Export stream resume info budget) =
+      uncopied (left (Export stream resume info budget)) (w .memory) (w .copy) (rw (export-phase s t l b stream resume info budget) h)
+
+pub run-copied : (l : List Given) (w : World) → Copied (w .session .phase) (w .memory) (w .copy) → Copied (run w l .session .phase) (run w l .memory) (run w l .copy)
+run-copied [] w h = h
+run-copied (g ∷ l) w h = run-copied l (after w g) (call-copied w (g .list) (g .buffer) h (g .call))

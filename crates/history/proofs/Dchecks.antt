@@ -1,0 +1,200 @@
+-- One DCHECK of a paused guest. Whatever list and budget it has, what stood below the place stays and what it passes is added to it; and if it has room and
+-- budget it comes to the end or gets on.
+use mathlib.Core.Path.{_≡_, refl, sym, subst}
+use mathlib.Core.Logic.{_⊎_, inl, inr, ⊎-elim}
+use mathlib.Core.Bool.{true, false, cond, not}
+use mathlib.Core.List.{List, [], _∷_, _++_, append-nil, List·Memᴰ, List·Memᴰ·head, List·Memᴰ·not-nil, List·Memᴰ·cases-cons, List·Memᴰ·append-cases, Memᴰ·append-left, Memᴰ·append-right}
+use Prim.Native.Nat.{ℕ, suc, _+_, _-_, _≤_, _<_}
+use native.Mathlib.Omega.{arith}
+use native.Mathlib.Decide.{decLt}
+use lib.Dec.{eqb}
+use lib.ListN.{length, take, drop, length-take}
+use borrow.Author.Tests.{ltb-false, le-ltb, eqb-true, eqb-false}
+use Rattle.words.specs.Codes as codes
+use Rattle.refusals.specs.Refusals.{firstOf}
+use Rattle.refusals.proofs.Laws.{either, first-all, not-true}
+use Rattle.table.specs.Table.{pageCount, pageAt}
+use Rattle.session.specs.Formed.{formed, gateTests, gated, within, busy, mostEntries, lastEpoch}
+use Rattle.session.specs.declared.Phase.the-variants.{Blackout}
+use Rattle.session.specs.declared.Session.{Session}
+use Rattle.session.proofs.Laws.{gate-open, open-gate}
+use Rattle.session.proofs.FormedLaws.{formed-means}
+use Rattle.migration.specs.Grant.{Ready}
+use Rattle.scan.specs.Scan.{ScanOut, answerOf, checkedBy, ScanOutcome, ranScan, refusedScan, dcheckTests, dcheckCode, dcheckOf, dcheckOut}
+use Rattle.scan.specs.declared.Scanned.{Scanned}
+use Rattle.scan.specs.declared.ScanAnswer.{ScanAnswer}
+use Rattle.scan.proofs.Laws.{dcheck-fits}
+use Rattle.scan.proofs.Outcomes.{dchecked, dcheck-either}
+use Rattle.calls.specs.Calls.{scanEffect}
+use Rattle.history.specs.Earning.{entriesOf, withList}
+use Rattle.history.proofs.Waiting.{Due, Listed, Short}
+use Rattle.history.proofs.Looks.{Calm}
+use Rattle.history.proofs.Passing.{Named, Stopped, Swept, range-swept}
+
+-- page i is ready, or due and named in one of the lists
+abbrev pub Waits : List ℕ → List (List ℕ) → ℕ → Type 0
+Waits t ls i = Ready (pageAt t i) ⊎ (Due (pageAt t i) × Listed ls i)
+
+-- between two DCHECKs of a guest of n pages, created with c: what is asked of session, table and the lists so far
+pub record Going (s : Session) (t : List ℕ) (n c : ℕ) (ls : List (List ℕ)) : Type 0 where
+  pub pages : s .pages ≡ n
+  pub phase : s .phase ≡ Blackout
+  pub rest : busy s ≡ false
+  pub epoch : s .epoch < lastEpoch
+  pub created : s .created ≡ c
+  pub unfailed : s .check .failed ≡ false
+  pub lists : (l : List ℕ) → List·Memᴰ l ls → Short l
+  pub passed : (i : ℕ) → i < s .check .place → Waits t ls i
+
+-- ---- the entries
+
+listed-more : (ls ms : List (List ℕ)) (i : ℕ) → Listed ls i → Listed (ls ++ ms) i
+listed-more ls ms i x = (x .0, Memᴰ·append-left ms (x .1), x .2)
+
+named-listed : (l : List ℕ) (i : ℕ) → Named l i → Listed (withList l []) i
+named-listed [] i x = absurd (List·Memᴰ·not-nil (x .1))
+named-listed (w ∷ l) i x = (w ∷ l, List·Memᴰ·head refl, x)
+
+with-short : (l : List ℕ) → length l ≤ mostEntries → (m : List ℕ) → List·Memᴰ m (withList l []) → Short m
+with-short [] h m k = absurd (List·Memᴰ·not-nil k)
+with-short (w ∷ l) h m k =
+    ⊎-elim
+    (λ (e : m ≡ w ∷ l). subst (λ (x : List ℕ). Short x) (sym e) (record { some = omega arith; most = h }))
+    (λ z. absurd (List·Memᴰ·not-nil z))
+    (List·Memᴰ·cases-cons k)
+
+-- an answer has the session and the code
+answer-session : (g : Scanned) (s : Session) → answerOf g s .session ≡ s
+unfolding answerOf
+answer-session g s = either (λ (a : ScanAnswer). a .session ≡ s) (eqb (g .put) 0) (λ e. refl) (λ e. refl)
+
+answer-code : (g : Scanned) (s : Session) → answerOf g s .code ≡ g .code
+unfolding answerOf
+answer-code g s = either (λ (a : ScanAnswer). a .code ≡ g .code) (eqb (g .put) 0) (λ e. refl) (λ e. refl)
+
+-- a DCHECK that ran gives the words that it wrote
+ran-entries : (s : Session) (o : ScanOut) → within codes.interrupted codes.checkComplete (o .scanned .code) ≡ true → entriesOf (scanEffect (ranScan s o) []) ≡ take (o .scanned .put) (o .list)
+unfolding answerOf
+ran-entries s o e =
+    either
+    (λ (a : ScanAnswer). cond (within codes.interrupted codes.checkComplete (a .code)) (take (suc (a .last) - a .first) (drop (a .first) (o .list))) [] ≡ take (o .scanned .put) (o .list))
+    (eqb (o .scanned .put) 0)
+    (λ z. rw (e, eqb-true (o .scanned .put) 0 z))
+    (λ z.
+    let none = eqb-false (o .scanned .put) 0 z in
+    let count : suc (o .scanned .put - 1) - 0 ≡ o .scanned .put = omega (arith, none) in
+    rw (e, count))
+
+-- a refusal gives none
+refused-entries : (s : Session) (t l : List ℕ) → entriesOf (scanEffect (refusedScan (dcheckCode s (length t) (length l)) s t l) []) ≡ []
+unfolding dcheckCode gated
+refused-entries s t l =
+    rw (not-true (within codes.interrupted codes.checkComplete (firstOf (gateTests s (length t) (Blackout ∷ []) (dcheckTests s (length l)))))
+    (first-all (λ (n : ℕ). not (within codes.interrupted codes.checkComplete n)) (gateTests s (length t) (Blackout ∷ []) (dcheckTests s (length l))) refl refl))
+
+-- the codes of a DCHECK that ran
+stopped-codes : (budget space code i n : ℕ) → Stopped budget space code i n → (within codes.interrupted codes.checkComplete code ≡ true) × (eqb code codes.memScanFailedBlockedRange ≡ false)
+stopped-codes budget space code i n (inl x) = rw (x .code) (refl, refl)
+stopped-codes budget space code i n (inr (inl x)) = rw (x .code) (refl, refl)
+stopped-codes budget space code i n (inr (inr x)) = rw (x .code) (refl, refl)
+
+-- a DCHECK from a place on comes to the end, or at least d pages further and not to the end
+pub record Further (d place n : ℕ) (a : ScanAnswer) : Type 0 where
+  pub code : eqb (a .code) codes.checkComplete ≡ false
+  pub incomplete : a .session .check .complete ≡ false
+  pub far : place + d ≤ a .session .check .place
+  pub inside : a .session .check .place < n
+
+abbrev pub GetsOn : ℕ → ℕ → ℕ → ScanAnswer → Type 0
+GetsOn d place n a = ((eqb (a .code) codes.checkComplete ≡ true) × (a .session .check .complete ≡ true)) ⊎ Further d place n a
+
+-- ---- the call
+
+module _ (s : Session) (t l : List ℕ) (budget : ℕ) (f : formed s (length t) ≡ true) (calm : (k : ℕ) → k < pageCount t → Calm (pageAt t k)) where
+  abbrev count : ℕ
+  count = s .pages - s .check .place
+
+  abbrev ran : ScanOut
+  ran = dchecked s t l budget
+
+  swept : dcheckCode s (length t) (length l) ≡ 0 → Swept (dcheckOf s budget) count t l ran
+  swept z =
+      let m = formed-means s (length t) f in
+      range-swept count (dcheckOf s budget) t l (dcheck-fits s (length t) (length l) z .1 .0) refl (omega (arith, m .tlb .high)) (omega (arith, m .place, m .pages .high)) calm
+
+  -- what a DCHECK passed is added to what stood below the place
+  ran-waits : (n c : ℕ) (ls : List (List ℕ)) → Going s t n c ls → Swept (dcheckOf s budget) count t l ran → (i : ℕ) → i < ran .scanned .next → Waits (ran .part) (ls ++ withList (take (ran .scanned .put) (ran .list)) []) i
+  ran-waits n c ls g w i h = go (decLt i (s .check .place))
+    where
+      new : List (List ℕ)
+      new = withList (take (ran .scanned .put) (ran .list)) []
+
+      go : Dec (i < s .check .place) → Waits (ran .part) (ls ++ new) i
+      go (yes b) = rw (w .before i b) (⊎-elim (λ x. inl x) (λ x. inr (x .0, listed-more ls new i (x .1))) (g .passed i b))
+      go (no b) =
+          ⊎-elim (λ x. inl x)
+          (λ x.
+          let m = named-listed (take (ran .scanned .put) (ran .list)) i (x .1) in
+          inr (x .0, (m .0, Memᴰ·append-right ls (m .1), m .2)))
+          (w .passed i (omega (arith, b)) (omega (arith, h, w .next)))
+
+  ran-lists : (ls : List (List ℕ)) → ((m : List ℕ) → List·Memᴰ m ls → Short m) → dcheckCode s (length t) (length l) ≡ 0 → (m : List ℕ) → List·Memᴰ m (ls ++ withList (take (ran .scanned .put) (ran .list)) []) → Short m
+  unfolding dcheckCode
+  ran-lists ls old z m k =
+      let w = swept z in
+      let room : length l ≤ mostEntries = ltb-false _ _ (gate-open s (length t) (Blackout ∷ []) (dcheckTests s (length l)) refl z .passed .0) in
+      let short : length (take (ran .scanned .put) (ran .list)) ≤ mostEntries = rw (length-take (ran .scanned .put) (ran .list)) (omega (arith, room, w .long)) in
+      ⊎-elim (λ x. old m x) (λ x. with-short (take (ran .scanned .put) (ran .list)) short m x) (List·Memᴰ·append-cases ls k)
+
+  pub dcheck-going : (n c : ℕ) (ls : List (List ℕ)) → Going s t n c ls → Going (dcheckOut s t l budget .answer .session) (dcheckOut s t l budget .table) n c (ls ++ withList (entriesOf (scanEffect (dcheckOut s t l budget) [])) [])
+  unfolding checkedBy busy
+  dcheck-going n c ls g =
+      dcheck-either s t l budget (λ (o : ScanOutcome). Going (o .answer .session) (o .table) n c (ls ++ withList (entriesOf (scanEffect o [])) []))
+      (λ z.
+      let w = swept z in
+      let known = stopped-codes budget (length l) (ran .scanned .code) (w .at) count (w .how) in
+      rw (answer-session (ran .scanned) (checkedBy s (ran .scanned)), ran-entries (checkedBy s (ran .scanned)) ran (known .0))
+      (record {
+        pages = g .pages;
+        phase = g .phase;
+        rest = g .rest;
+        epoch = g .epoch;
+        created = g .created;
+        unfailed = known .1;
+        lists = ran-lists ls (g .lists) z;
+        passed = ran-waits n c ls g w;
+      }))
+      (rw (refused-entries s t l, append-nil ls) g)
+
+  dcheck-runs : dcheckCode s (length t) (length l) ≡ 0 → dcheckOut s t l budget ≡ ranScan (checkedBy s (ran .scanned)) ran
+  unfolding dcheckOut
+  dcheck-runs z = rw z
+
+  -- where it was not complete, and the list and the budget are enough for d pages
+  pub dcheck-gets-on : (d n c : ℕ) (ls : List (List ℕ)) → Going s t n c ls → s .check .complete ≡ false → length l ≤ mostEntries → d ≤ length l → ((i : ℕ) → budget ≤ i → i < n → d ≤ i) → GetsOn d (s .check .place) n (dcheckOut s t l budget .answer)
+  unfolding checkedBy dcheckCode
+  dcheck-gets-on d n c ls g unfinished most room spent =
+      let z : dcheckCode s (length t) (length l) ≡ 0
+      = open-gate s (length t) (Blackout ∷ []) (dcheckTests s (length l)) (record { formed = f; comes = rw (g .phase); passed = (le-ltb mostEntries (length l) most, (rw (unfinished, g .unfailed), tt)) }) in
+      let w = swept z in
+      rw (dcheck-runs z) (go w (w .how))
+    where
+      made : ScanAnswer
+      made = answerOf (ran .scanned) (checkedBy s (ran .scanned))
+
+      place : s .check .place ≤ s .pages
+      place = formed-means s (length t) f .place
+
+      further : (w : Swept (dcheckOf s budget) count t l ran) → eqb (ran .scanned .code) codes.checkComplete ≡ false → d ≤ w .at → w .at < count → Further d (s .check .place) n made
+      further w e far inside =
+          record {
+            code = rw (answer-code (ran .scanned) (checkedBy s (ran .scanned))) e;
+            incomplete = rw (answer-session (ran .scanned) (checkedBy s (ran .scanned))) e;
+            far = rw (answer-session (ran .scanned) (checkedBy s (ran .scanned))) (omega (arith, w .next, far));
+            inside = rw (answer-session (ran .scanned) (checkedBy s (ran .scanned))) (omega (arith, w .next, inside, g .pages, place));
+          }
+
+      go : (w : Swept (dcheckOf s budget) count t l ran) → Stopped budget (length l) (ran .scanned .code) (w .at) count → GetsOn d (s .check .place) n made
+      go w (inl x) = inl (rw (answer-code (ran .scanned) (checkedBy s (ran .scanned)), x .code), rw (answer-session (ran .scanned) (checkedBy s (ran .scanned)), x .code))
+      go w (inr (inl x)) = inr (further w (rw (x .code)) (spent (w .at) (x .spent) (omega (arith, x .place, g .pages))) (x .place))
+      go w (inr (inr x)) = inr (further w (rw (x .code)) (omega (arith, x .full, room)) (x .place))

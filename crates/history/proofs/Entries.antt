@@ -1,0 +1,97 @@
+-- An entry that succeeds: its operation fits what the destination has of the page, and what it makes there is what the page then needs. By state; a page whose
+-- contents are sent is clean and has no translation left that would write unseen.
+use native.Mathlib.Omega.{arith}
+use mathlib.Core.Path.{_≡_, refl}
+use mathlib.Core.Bool.{Bool, true, false, cond, not, _&&_, _||_, true≢false, false≢true}
+use mathlib.Core.List.{[], _∷_}
+use Prim.Native.Nat.{ℕ, _<_}
+use lib.Dec.{eqb, ltb}
+use borrow.Author.Tests.{ltb-true, eqb-false}
+use Rattle.words.specs.declared.entries.Entry.{Entry}
+use Rattle.refusals.proofs.Laws.{and-left, and-right, not-true, not-false, passed}
+use Rattle.states.specs.Rows.{rowOf}
+use Rattle.states.specs.Lists.{listingOf}
+use Rattle.states.specs.declared.State.{State}
+use Rattle.states.specs.declared.State.the-variants.{Free, Blocked, Pending, PendingBlocked, Mapped, Exported, ExportedModified, ExportedBlocked, ExportedRemoved, PendingExported, PendingExportedModified, PendingExportedBlocked, Strange}
+use Rattle.page.specs.Page.{blocked, tracked}
+use Rattle.page.specs.declared.Page.{Page}
+use Rattle.session.specs.Session.{among, moving}
+use Rattle.session.specs.declared.Phase.{Phase}
+use Rattle.session.specs.declared.Phase.the-variants.{Idle, Live, Blackout, Done}
+use Rattle.entry.specs.Entry.{unexportable, statusTests, statusOf, exportedPage}
+use Rattle.entry.specs.declared.Ground.{Ground}
+use Rattle.entry.proofs.Laws.{Exportable, status-success}
+use Rattle.bundle.specs.Bundle.{Holding, Operation, made, Fits}
+use Rattle.history.specs.History.{operationOf}
+use Rattle.history.proofs.Pages.{Clock, clockOn, There, Same, Seen, Still, Ok}
+
+-- an entry that succeeds: what it finds at the destination, and what it makes of it
+pub record Sends (k : Clock) (p q : Page) (o : Operation) (m : Holding) : Type 0 where
+  pub fits : (h : Holding) → Ok k p h → Fits o h
+  pub ok : (h : Holding) → Ok k p h → Ok k q m
+  pub older : (h : Holding) → Ok k p h → p .epoch < k .epoch
+  pub now : q .epoch ≡ k .epoch
+
+abbrev sentAs : State → Operation
+sentAs z = operationOf (listingOf z .operation)
+
+abbrev sentTo : State → ℕ → Holding
+sentTo z mark = made (sentAs z) (listingOf z .pending) (cond (listingOf z .contents) mark 0)
+
+-- the same by state: Dirty, Cached, mark
+record Makes (z : State) (d c : Bool) (mark : ℕ) : Type 0 where
+  fits : (h : Holding) → There z h → Fits (sentAs z) h
+  there : There (listingOf z .export) (sentTo z mark)
+  same : (listingOf z .cancelled ≡ false → c ≡ false) → Same (listingOf z .export) d c mark (sentTo z mark)
+  blocked : rowOf (listingOf z .export) .blocked ≡ rowOf z .blocked
+
+makes : (z : State) (d c : Bool) (mark : ℕ) → (listingOf z .barred || (listingOf z .sent && not d)) ≡ false → (not (listingOf z .cancelled) && d) ≡ false → Makes z d c mark
+unfolding rowOf listingOf
+makes Free d c mark a b = absurd (true≢false a)
+makes Blocked d c mark a b = absurd (true≢false a)
+makes Pending d c mark a b = record { fits = λ h t. t; there = tt; same = λ n. refl; blocked = refl }
+makes PendingBlocked d c mark a b = absurd (true≢false a)
+makes Mapped d c mark a b = record { fits = λ h t. t; there = tt; same = λ n x. (n refl, refl); blocked = refl }
+makes Exported true c mark a b = absurd (true≢false b)
+makes Exported false c mark a b = absurd (true≢false a)
+makes ExportedModified d c mark a b = record { fits = λ h t. t; there = tt; same = λ n x. (n refl, refl); blocked = refl }
+makes ExportedBlocked d c mark a b = record { fits = λ h t. t; there = refl; same = λ n. tt; blocked = refl }
+makes ExportedRemoved d c mark a b = record { fits = λ h t. t; there = refl; same = λ n. tt; blocked = refl }
+makes PendingExported true c mark a b = absurd (true≢false b)
+makes PendingExported false c mark a b = absurd (true≢false a)
+makes PendingExportedModified d c mark a b = record { fits = λ h t. t; there = tt; same = λ n. refl; blocked = refl }
+makes PendingExportedBlocked d c mark a b = record { fits = λ h t. t; there = refl; same = λ n. tt; blocked = refl }
+makes Strange d c mark a b = absurd (true≢false a)
+
+-- where the tests of Dirty and stamp are passed, no processor has a translation left
+quiet : (phase : Phase) → among moving phase ≡ true → (tlb stamp : ℕ) (d c b : Bool) → (among (Live ∷ []) phase && not (tracked stamp tlb)) ≡ false → d ≡ false → Seen tlb d c stamp → Still phase c b → c ≡ false
+unfolding tracked
+quiet Idle m tlb stamp d c b x y s u = absurd (false≢true m)
+quiet Live m tlb stamp d c b x y s u =
+    let z : (not (eqb stamp 0) && ltb stamp tlb) ≡ true = not-false (not (eqb stamp 0) && ltb stamp tlb) x in
+    let n : stamp ≡ 0 → ⊥ = eqb-false stamp 0 (not-true (eqb stamp 0) (and-left (not (eqb stamp 0)) (ltb stamp tlb) z)) in
+    s (omega (arith, n)) (ltb-true stamp tlb (and-right (not (eqb stamp 0)) (ltb stamp tlb) z)) y
+quiet Blackout m tlb stamp d c b x y s u = u .0
+quiet Done m tlb stamp d c b x y s u = absurd (false≢true m)
+
+pub entry-sends : (g : Ground) (e : Entry) (p : Page) → among moving (g .phase) ≡ true → statusOf e p g ≡ 0 → Sends (clockOn g) p (exportedPage p (listingOf (p .state) .export) (g .epoch)) (operationOf (listingOf (p .state) .operation)) (made (operationOf (listingOf (p .state) .operation)) (listingOf (p .state) .pending) (cond (listingOf (p .state) .contents) (p .mark) 0))
+unfolding statusOf unexportable
+entry-sends g e p v x =
+    record {
+      fits = λ h o. m .fits h (o .there);
+      ok = λ h o. record { young = omega arith; there = m .there; same = m .same (λ n. calm n o); seen = o .seen; still = rw (m .blocked) (o .still) };
+      older = λ h o. let n : p .epoch ≡ g .epoch → ⊥ = eqb-false (p .epoch) (g .epoch) (t .new) in omega (arith, n, o .young);
+      now = refl;
+    }
+  where
+    t : Exportable p g
+    t = status-success e p g x
+
+    m : Makes (p .state) (p .dirty) (p .cached) (p .mark)
+    m = makes (p .state) (p .dirty) (p .cached) (p .mark) (t .able) (t .clean)
+
+    early : (not (listingOf (p .state) .cancelled) && among (Live ∷ []) (g .phase) && not (tracked (p .stamp) (g .tlb))) ≡ false
+    early = passed (statusTests e p g) refl x .1 .1 .1 .1 .1 .1 .0
+
+    calm : {h : Holding} → listingOf (p .state) .cancelled ≡ false → Ok (clockOn g) p h → p .cached ≡ false
+    calm n o = quiet (g .phase) v (g .tlb) (p .stamp) (p .dirty) (p .cached) (blocked p) (rw n at early) (rw n at (t .clean)) (o .seen) (o .still)

@@ -1,0 +1,74 @@
+-- The example computes.
+use mathlib.Core.Path.{_≡_, refl, sym, subst}
+use mathlib.Core.Bool.{Bool, true, _&&_}
+use mathlib.Core.Logic.{⊎-elim}
+use mathlib.Core.List.{List, [], _∷_, List·Memᴰ, List·Memᴰ·not-nil, List·Memᴰ·cases-cons, List·Memᴰ·eq-of-singleton, List·Permᴰ·swap, Permᴰ·refl}
+use Prim.Native.Nat.{ℕ, _≤_}
+use lib.Dec.{leb, lit<, lit≤}
+use borrow.Author.Tests.{leb-true}
+use Rattle.words.specs.Record.{recordOf, recordWord, plain}
+use Rattle.words.specs.Entry.{entryOf, entryWord}
+use Rattle.words.specs.Info.{infoOf, infoWord}
+use Rattle.refusals.proofs.Laws.{and-left, and-right}
+use Rattle.states.specs.States.{stateOf}
+use Rattle.states.specs.Rows.{rowOf}
+use Rattle.states.specs.Lists.{listingOf}
+use Rattle.page.specs.Page.{pageOf, held, written, tracked, gives53, gives54}
+use Rattle.page.specs.Moves.{settled, moveCode, leaveCode, writeStep, addStep, acceptStep, blockStep, unblockStep, removeStep, turnOf}
+use Rattle.page.specs.Sweeps.{keptStamp, unlessStrange}
+use Rattle.table.specs.Table.{legal, wordsAt, putAt, some}
+use Rattle.session.specs.Session.{runOf, withRun}
+use Rattle.session.specs.Formed.{numberTests, busy, formed, gated}
+use Rattle.session.specs.Outcome.{answered}
+use Rattle.memory.specs.Memory.{newCode, newOut, pageCode, pageTurn, onPage, writeOut, addOut, acceptOut, blockOut, unblockOut, removeOut, trackCode, trackOut}
+use Rattle.migration.specs.Migration.{startCode, startOut, pauseCode, pauseOut, abortCode, abortOut, newEpochCode, newEpochOut, resetCode, resetOut}
+use Rattle.migration.specs.Token.{tokenCode, inTheWay, tokenFor, tokenOut}
+use Rattle.scan.specs.Look.{listed, listedWord, listedPage, lookOf}
+use Rattle.scan.specs.Scan.{stopCode, endCode, scanRun, rangeRun, answerOf, checkedBy, withinTable, dscanCode, dscanOut, dcheckCode, dcheckOut}
+use Rattle.entry.specs.Entry.{invalid, unexportable, statusOf, answerWord, success, failure, takenOf}
+use Rattle.export.specs.Run.{wordsAfter, counted, stepped, exportRun}
+use Rattle.export.specs.Export.{exportCode, groundOf, macPages, nextFirst, finishedBy, exportOut}
+use Rattle.bundle.specs.Bundle.{Sent, Rising}
+use Rattle.history.specs.Earning.{Ask, Fair, Sending, Whole}
+use Rattle.history.specs.Example.{reordered, asks, sendings, fresh, toPause, Met}
+use Rattle.history.specs.History.{run}
+
+-- epochs in order, by computing
+abbrev from : ℕ → List Sent → Bool
+from n [] = true
+from n (x ∷ l) = leb n (x .epoch) && from n l
+
+from-means : (n : ℕ) (l : List Sent) → from n l ≡ true → (y : Sent) → List·Memᴰ y l → n ≤ y .epoch
+from-means n [] e y m = absurd (List·Memᴰ·not-nil m)
+from-means n (x ∷ l) e y m =
+    ⊎-elim
+    (λ q. subst (λ (z : Sent). n ≤ z .epoch) (sym q) (leb-true n (x .epoch) (and-left (leb n (x .epoch)) (from n l) e)))
+    (λ k. from-means n l (and-right (leb n (x .epoch)) (from n l) e) y k)
+    (List·Memᴰ·cases-cons m)
+
+abbrev rising : List Sent → Bool
+rising [] = true
+rising (x ∷ l) = from (x .epoch) l && rising l
+
+rising-means : (l : List Sent) → rising l ≡ true → Rising l
+rising-means [] e = tt
+rising-means (x ∷ l) e = (from-means (x .epoch) l (and-left (from (x .epoch) l) (rising l) e), rising-means l (and-right (from (x .epoch) l) (rising l) e))
+
+-- a list of one
+only : {A : Type 0} (P : A → Type 0) (x : A) → P x → (y : A) → List·Memᴰ y (x ∷ []) → P y
+only P x p y m = subst P (sym (List·Memᴰ·eq-of-singleton m)) p
+
+pub met : Met
+unfolding recordOf recordWord plain entryOf entryWord infoOf infoWord stateOf rowOf listingOf pageOf held written tracked gives53 gives54 settled moveCode leaveCode writeStep addStep acceptStep blockStep unblockStep removeStep turnOf keptStamp unlessStrange legal wordsAt putAt some runOf withRun numberTests busy formed gated answered newCode newOut pageCode pageTurn onPage writeOut addOut acceptOut blockOut unblockOut removeOut trackCode trackOut startCode startOut pauseCode pauseOut abortCode abortOut newEpochCode newEpochOut resetCode resetOut tokenCode inTheWay tokenFor tokenOut listed listedWord listedPage lookOf stopCode endCode scanRun rangeRun answerOf checkedBy withinTable dscanCode dscanOut dcheckCode dcheckOut invalid unexportable statusOf answerWord success failure takenOf wordsAfter counted stepped exportRun exportCode groundOf macPages nextFirst finishedBy exportOut
+met =
+    record {
+      new = refl;
+      token = refl;
+      log = refl;
+      order = record { same = List·Permᴰ·swap refl refl; rising = rising-means reordered refl };
+      stopped = record { phase = refl; rest = refl; epoch = lit< tt };
+      fair = only Fair _ (record { some = lit≤ tt; most = lit≤ tt; budget = lit≤ tt });
+      ended = refl;
+      plan = record { same = Permᴰ·refl _; whole = only (Whole (run fresh toPause)) _ (record { usable = lit< tt; buffer = refl; hpa = lit< tt; budgets = lit≤ tt }) };
+      earned = refl;
+    }

@@ -1,0 +1,191 @@
+-- An export: along its run the log grows by exactly the entries that succeed, as the words and the buffer that come back tell them; and how far it came is told by
+-- its answer.
+use mathlib.Core.Path.{_≡_, refl, sym, _∙_, subst}
+use mathlib.Core.Bool.{Bool, true, false, _&&_, true≢false}
+use mathlib.Core.List.{List, _++_, append-assoc, append-nil}
+use Prim.Native.Nat.{ℕ, zero, suc, _+_, _-_, _^_, _≤_, _<_}
+use native.Mathlib.Omega.{arith}
+use lib.Dec.{eqb, leb, ltb}
+use lib.ListN.{length, set, length-set}
+use lib.Seq.{getD-set-same, getD-set-other}
+use borrow.Author.Tests.{eqb-true, leb-true, ltb-true, ltb-false}
+use Rattle.words.specs.Info.{infoOf, withFirst}
+use Rattle.words.specs.Record.{room}
+use Rattle.words.specs.declared.infos.Info.{Info}
+use Rattle.words.proofs.InfoLaws.{info-fits, info-word}
+use Rattle.refusals.proofs.Laws.{either, and-left, not-false}
+use Rattle.table.specs.Table.{pageCount}
+use Rattle.session.specs.Session.{among, moving, runOf, withRun, streamPlaces}
+use Rattle.session.specs.Formed.{lastEntry}
+use Rattle.session.specs.declared.Phase.the-variants.{Idle}
+use Rattle.session.specs.declared.Session.{Session}
+use Rattle.session.specs.declared.streams.Run.{Run}
+use Rattle.session.specs.declared.streams.Run.the-variants.{AtRest, Interrupted}
+use Rattle.session.proofs.Laws.{gate-open}
+use Rattle.session.proofs.FormedLaws.{formed-means}
+use Rattle.entry.specs.declared.Ground.{Ground}
+use Rattle.export.specs.Run.{Standing, standing, taking, counted, stepped, exportRun}
+use Rattle.export.specs.Export.{noResumption, noNewCall, notFrom0, exportTests, exportCode, groundOf, begunBy, nextFirst, finishedBy, ExportOutcome, ranExport, exportOut}
+use Rattle.export.specs.declared.runs.Progress.{Progress}
+use Rattle.export.specs.declared.ExportAnswer.{ExportAnswer}
+use Rattle.export.proofs.Laws.{export-ready, run-bounds}
+use Rattle.export.proofs.Moves.{exported}
+use Rattle.calls.specs.Calls.{exportNumbers, exportEffect}
+use Rattle.bundle.specs.Bundle.{Sent}
+use Rattle.history.specs.History.{World, sentBy, sentFrom, cameTo, sentIn}
+use Rattle.history.proofs.Pages.{Clock, clockOf, clockOn}
+use Rattle.history.proofs.Sessions.{not-idle}
+use Rattle.history.proofs.Logs.{Orderly, Fine, adds, taken-length, one-more}
+use Rattle.history.proofs.Stands.{since, Stands, since-begun}
+
+-- ---- words that are not touched, and the one that is
+
+sent-set : (epoch : ℕ) (l b : List ℕ) (at w v first n : ℕ) → first + n ≤ at → sentFrom epoch (set l at w) (set b at v) first n ≡ sentFrom epoch l b first n
+sent-set epoch l b at w v first zero h = refl
+sent-set epoch l b at w v first (suc n) h =
+    let other : first + n ≡ at → ⊥ = λ e. omega arith in
+    rw (getD-set-other l at (first + n) w 0 other, getD-set-other b at (first + n) v 0 other, sent-set epoch l b at w v first n (omega arith))
+
+-- the entries of a step: those before, and the one of its word
+sent-step : (epoch : ℕ) (l b : List ℕ) (at w v first : ℕ) → first ≤ at → at < length l → at < length b → sentFrom epoch (set l at w) (set b at v) first (at + 1 - first) ≡ sentFrom epoch l b first (at - first) ++ sentBy epoch w v
+sent-step epoch l b at w v first h hl hb =
+    let more : at + 1 - first ≡ suc (at - first) = omega arith in
+    let here : first + (at - first) ≡ at = omega arith in
+    rw (more, here, getD-set-same l at w 0 hl, getD-set-same b at v 0 hb, sent-set epoch l b at w v first (at - first) (omega arith))
+
+-- ---- the entries in turn
+
+record Along (g : Ground) (log : List Sent) (first last : ℕ) (s : Standing) : Type 0 where
+  orderly : Orderly (log ++ sentFrom (g .epoch) (s .list) (s .buffer) first (s .at .next - first))
+  fine : Fine (clockOn g) (log ++ sentFrom (g .epoch) (s .list) (s .buffer) first (s .at .next - first)) (s .table)
+  from : first ≤ s .at .next
+  long : last < length (s .list)
+  same : length (s .buffer) ≡ length (s .list)
+  size : g .pages ≡ pageCount (s .table)
+
+module _ (g : Ground) (moves : among moving (g .phase) ≡ true) (small : g .epoch < room) (log : List Sent) (first last : ℕ) where
+  along-step : (s : Standing) → s .at .next ≤ last → Along g log first last s → Along g log first last (stepped g s)
+  unfolding stepped counted
+  along-step s h a =
+      let x = taking g s in
+      let so : List Sent = log ++ sentFrom (g .epoch) (s .list) (s .buffer) first (s .at .next - first) in
+      let more = one-more g s moves small (a .size) so (a .orderly) (a .fine) in
+      let l : s .at .next < length (s .list) = omega (arith, h, a .long) in
+      let logs : sentFrom (g .epoch) (stepped g s .list) (stepped g s .buffer) first (s .at .next + 1 - first) ≡ sentFrom (g .epoch) (s .list) (s .buffer) first (s .at .next - first) ++ adds g s
+      = sent-step (g .epoch) (s .list) (s .buffer) (s .at .next) (x .word) (x .buffer) first (a .from) l (rw (a .same) l) in
+      record {
+        orderly = rw (logs, ← append-assoc) (more .0);
+        fine = rw (logs, ← append-assoc) (more .1);
+        from = omega (arith, a .from);
+        long = rw length-set (a .long);
+        same = length-set (s .buffer) _ _ ∙ a .same ∙ sym (length-set (s .list) _ _);
+        size = rw (taken-length g s) (a .size);
+      }
+
+  along-run : (budget : ℕ) (s : Standing) → Along g log first last s → Along g log first last (exportRun g last budget s)
+  unfolding exportRun
+  along-run zero s a = a
+  along-run (suc budget) s a =
+      either (Along g log first last) (leb (s .at .next) last)
+      (λ e. along-run budget (stepped g s) (along-step s (leb-true _ _ e) a))
+      (λ e. a)
+
+-- ---- how far an export came
+
+-- a call that is not refused begins at the FIRST that it was given
+begins : (s : Session) (len entries room stream : ℕ) (resume : Bool) (x : Info) → exportCode s len entries room stream resume x ≡ 0 → begunBy (runOf s stream) .next ≡ x .first
+unfolding exportCode
+begins s len entries room stream resume x e =
+    let p = gate-open s len moving (exportTests s entries room stream resume x) refl e .passed in
+    go resume (runOf s stream) (p .1 .1 .1 .1 .1 .1 .0) (p .1 .1 .1 .1 .1 .1 .1 .0) (p .1 .1 .1 .1 .1 .1 .1 .1 .0)
+  where
+    go : (r : Bool) (z : Run) → noResumption r z x ≡ false → noNewCall r z ≡ false → notFrom0 r x ≡ false → begunBy z .next ≡ x .first
+    go true AtRest a b c = absurd (true≢false a)
+    go false AtRest a b c = sym (eqb-true (x .first) 0 (not-false (eqb (x .first) 0) c))
+    go true (Interrupted next last errors pages) a b c =
+        sym (eqb-true (x .first) next (and-left (eqb (x .first) next) (eqb (x .last) last) (not-false (eqb (x .first) next && eqb (x .last) last) a)))
+    go false (Interrupted next last errors pages) a b c = absurd (true≢false b)
+
+-- what its answer tells
+came : (s : Session) (stream info : ℕ) (at : Progress) → at .next ≤ infoOf info .last + 1 → infoOf info .last ≤ lastEntry → cameTo info (exportNumbers (finishedBy s stream (infoOf info) at)) ≡ at .next
+unfolding finishedBy nextFirst
+came s stream info at h short =
+    either (λ (a : ExportAnswer). cameTo info (exportNumbers a) ≡ at .next) (ltb (infoOf info .last) (at .next))
+    (λ q. omega (arith, h, ltb-true (infoOf info .last) (at .next) q))
+    (λ q.
+    let f = info-fits info in
+    let low : at .next < 2 ^ 9 = omega (arith, short, ltb-false (infoOf info .last) (at .next) q) in
+    rw (q, info-word (withFirst (infoOf info) (at .next)) (record { format = f .format; first = low; hpa = f .hpa; zero52 = f .zero52; last = f .last })))
+
+none-came : (info code : ℕ) (s : Session) → eqb code 0 ≡ false → cameTo info (exportNumbers (record { code = code; info = 0; errors = 0; buffers = 0; session = s })) ≡ 0
+unfolding infoOf
+none-came info code s e = rw e (either (λ (n : ℕ). n ≡ 0) (eqb code 1) (λ q. refl) (λ q. refl))
+
+-- ---- the whole call
+
+run-clock : (s : Session) (stream : ℕ) (run : Run) → clockOf (withRun s stream run) ≡ clockOf s
+unfolding withRun
+run-clock s stream run = either (λ (s' : Session). clockOf s' ≡ clockOf s) (ltb stream streamPlaces) (λ e. refl) (λ e. refl)
+
+finished-clock : (s : Session) (stream : ℕ) (x : Info) (at : Progress) → clockOf (finishedBy s stream x at .session) ≡ clockOf s
+unfolding finishedBy
+finished-clock s stream x at =
+    either (λ (a : ExportAnswer). clockOf (a .session) ≡ clockOf s) (ltb (x .last) (at .next)) (λ e. run-clock s stream _) (λ e. run-clock s stream _)
+
+module _ (w : World) (l b : List ℕ) (stream : ℕ) (resume : Bool) (info budget : ℕ) (o : Orderly (w .log)) (f : Stands (w .session) (w .table) (w .log)) where
+  abbrev s : Session
+  s = w .session
+
+  abbrev t : List ℕ
+  t = w .table
+
+  -- what an export leaves, with the log that it makes
+  abbrev Logged : ExportOutcome → Type 0
+  Logged x = Orderly (w .log ++ sentIn w info (exportEffect x)) × Stands (x .answer .session) (x .table) (w .log ++ sentIn w info (exportEffect x))
+
+  abbrev ran : Standing
+  ran = exported s t l b stream info budget
+
+  ran-along : exportCode s (length t) (length l) (length b) stream resume (infoOf info) ≡ 0 → Along (groundOf s) (w .log) (infoOf info .first) (infoOf info .last) ran
+  unfolding groundOf exportCode
+  ran-along e =
+      let p = gate-open s (length t) moving (exportTests s (length l) (length b) stream resume (infoOf info)) refl e in
+      let y = formed-means s (length t) (p .formed) in
+      let moves : s .phase ≡ Idle → ⊥ = not-idle moving (s .phase) refl (p .comes) in
+      let ready = export-ready s (length t) (length l) (length b) stream resume (infoOf info) e in
+      let at : begunBy (runOf s stream) .next ≡ infoOf info .first = begins s (length t) (length l) (length b) stream resume (infoOf info) e in
+      let none : infoOf info .first - infoOf info .first ≡ 0 = omega arith in
+      let small : s .epoch < room = omega (arith, y .begun moves .high) in
+      along-run (groundOf s) (p .comes) small (w .log) (infoOf info .first) (infoOf info .last) budget (standing (begunBy (runOf s stream)) t l b)
+      (record {
+        orderly = rw (at, none, append-nil) o;
+        fine = rw (at, none, append-nil) (rw (since-begun (s .phase) (w .log) moves) at f);
+        from = omega (arith, at);
+        long = ready .within;
+        same = ready .same;
+        size = sym (y .ours);
+      })
+
+  ran-logged : exportCode s (length t) (length l) (length b) stream resume (infoOf info) ≡ 0 → Logged (ranExport s stream (infoOf info) ran)
+  unfolding groundOf exportCode
+  ran-logged e =
+      let p = gate-open s (length t) moving (exportTests s (length l) (length b) stream resume (infoOf info)) refl e in
+      let moves : s .phase ≡ Idle → ⊥ = not-idle moving (s .phase) refl (p .comes) in
+      let ready = export-ready s (length t) (length l) (length b) stream resume (infoOf info) e in
+      let bounds = run-bounds (groundOf s) (infoOf info .last) budget (standing (begunBy (runOf s stream)) t l b) (record { next = omega (arith, ready .ordered); counts = ready .counts }) in
+      let far : cameTo info (exportNumbers (finishedBy s stream (infoOf info) (ran .at))) ≡ ran .at .next = came s stream info (ran .at) (bounds .next) (ready .short) in
+      let a = ran-along e in
+      let more : List Sent = w .log ++ sentFrom (s .epoch) (ran .list) (ran .buffer) (infoOf info .first) (ran .at .next - infoOf info .first) in
+      rw far (
+        a .orderly,
+        subst (λ (k : Clock). Fine k (since (k .phase) more) (ran .table)) (sym (finished-clock s stream (infoOf info) (ran .at))) (rw (since-begun (s .phase) more moves) (a .fine)),
+      )
+
+  pub export-logged : Logged (exportOut s t l b stream resume info budget)
+  unfolding exportOut
+  export-logged =
+      either Logged (eqb (exportCode s (length t) (length l) (length b) stream resume (infoOf info)) 0)
+      (λ e. ran-logged (eqb-true _ _ e))
+      (λ e.
+      let none : 0 - infoOf info .first ≡ 0 = omega arith in
+      rw (none-came info (exportCode s (length t) (length l) (length b) stream resume (infoOf info)) s e, none, append-nil) (o, f))

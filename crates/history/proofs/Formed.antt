@@ -1,0 +1,211 @@
+-- Sessions stay well-formed, and keep their eight streams. A call that is refused gives back the session and the table that came; one that is accepted makes a
+-- session that is well-formed again (`Accepted`), and leaves a table of the same length.
+use mathlib.Core.Path.{_≡_, refl, sym, ap, _∙_}
+use mathlib.Core.Bool.{true, true≢false}
+use mathlib.Core.List.{List, [], _∷_}
+use Prim.Native.Nat.{ℕ, _+_, _-_}
+use lib.Dec.{eqb, ltb}
+use lib.ListN.{length, replicate, length-set, length-replicate}
+use borrow.Author.Tests.{eqb-true}
+use Rattle.words.specs.Info.{infoOf}
+use Rattle.words.specs.declared.infos.Info.{Info}
+use Rattle.refusals.proofs.Laws.{either}
+use Rattle.page.specs.Sweeps.{uncached, started, aborted, sweptWords}
+use Rattle.page.specs.declared.Page.{Page}
+use Rattle.page.specs.declared.moves.Move.{Move}
+use Rattle.page.specs.declared.moves.Move.the-variants as move
+use Rattle.table.specs.Table.{pageCount, wordsAt, putAt, sweepOf}
+use Rattle.table.proofs.Laws.{put-length, sweep-length}
+use Rattle.session.specs.Session.{streamPlaces, unchecked, newSession, begun, withPhase, withTlb, withEpoch, withCheck, withRun, runOf}
+use Rattle.session.specs.Formed.{formed}
+use Rattle.session.specs.Outcome.{Outcome, answered, answeredBy}
+use Rattle.session.specs.declared.Phase.the-variants as phase
+use Rattle.session.specs.declared.Session.{Session}
+use Rattle.session.specs.declared.streams.Run.{Run}
+use Rattle.session.specs.declared.streams.Run.the-variants.{AtRest, Interrupted}
+use Rattle.session.proofs.Laws.{answered-either}
+use Rattle.session.proofs.FormedLaws.{Formed, formed-means, means-formed}
+use Rattle.memory.specs.Memory.{newCode, newOut, pageTurn, onPage, writeOut, addOut, acceptOut, blockOut, unblockOut, removeOut, trackCode, trackOut}
+use Rattle.memory.proofs.Laws.{track-room}
+use Rattle.migration.specs.Migration.{startCode, startOut, pauseCode, pauseOut, abortCode, abortOut, newEpochCode, newEpochOut, resetCode, resetOut}
+use Rattle.migration.specs.Token.{tokenCode, tokenOut}
+use Rattle.scan.specs.Scan.{rangeRun, answerOf, checkedBy, ScanOutcome, dscanOf, dcheckOf}
+use Rattle.scan.specs.declared.Scanned.{Scanned}
+use Rattle.scan.specs.declared.ScanAnswer.{ScanAnswer}
+use Rattle.scan.proofs.RangeLaws.{range-length}
+use Rattle.scan.proofs.Outcomes.{dscan-either, dchecked, dcheck-either}
+use Rattle.export.specs.Run.{standing}
+use Rattle.export.specs.Export.{exportCode, groundOf, begunBy, finishedBy, ExportOutcome, exportOut}
+use Rattle.export.specs.declared.runs.Progress.{Progress}
+use Rattle.export.specs.declared.ExportAnswer.{ExportAnswer}
+use Rattle.export.proofs.Moves.{exported, export-either}
+use Rattle.calls.specs.Calls.{effectOf}
+use Rattle.calls.specs.declared.Call.{Call}
+use Rattle.calls.specs.declared.Call.the-variants.{New, Write, Add, Accept, Block, Unblock, Remove, Track, Start, Pause, Abort, NewEpoch, Reset, StartToken, Dscan, Dcheck, Export}
+use Rattle.history.specs.History.{Given, World, accepted, after, run, newEffect, newWorld, History, atEnd}
+use Rattle.history.specs.Promises.{StaysFormed}
+use Rattle.history.proofs.Sessions.{track-formed, start-formed, abort-formed, reset-formed}
+use Rattle.history.proofs.Accepted.{new-made, pause-made, epoch-made, token-made, check-made, export-length, export-made}
+
+-- ---- every call
+
+module _ (s : Session) (t : List ℕ) (f : formed s (length t) ≡ true) where
+  abbrev means : Formed s (length t)
+  means = formed-means s (length t) f
+
+  answered-formed : (code : ℕ) (s' : Session) (t' : List ℕ) → (code ≡ 0 → Formed s' (length t)) → length t' ≡ length t → formed (answered code s t s' t' .answer .session) (length (answered code s t s' t' .table)) ≡ true
+  answered-formed code s' t' made size =
+      answered-either (λ (o : Outcome). formed (o .answer .session) (length (o .table)) ≡ true) code s t s' t'
+      (λ e. rw size (means-formed s' (length t) (made (eqb-true _ _ e))))
+      (λ e. f)
+
+  page-formed : (m : Move) (at : ℕ) → formed (onPage m s t at .answer .session) (length (onPage m s t at .table)) ≡ true
+  unfolding onPage
+  page-formed m at =
+      let turn = pageTurn m s (length t) at (wordsAt t at) in
+      answered-formed (turn .code) s (putAt t at (turn .words)) (λ e. means) (put-length t at (turn .words))
+
+  swept-formed : (g : Page → Page) (code : ℕ) (s' : Session) → (code ≡ 0 → Formed s' (length t)) → formed (answeredBy g code s s' t .answer .session) (length (answeredBy g code s s' t .table)) ≡ true
+  swept-formed g code s' made = answered-formed code s' (sweepOf (sweptWords g) (pageCount t) t) made (sweep-length (sweptWords g) t (pageCount t))
+
+  granted-formed : formed (tokenOut s t .session) (length t) ≡ true
+  unfolding tokenOut
+  granted-formed =
+      either (λ (s' : Session). formed s' (length t) ≡ true) (eqb (tokenCode s t) 0)
+      (λ e. means-formed (withPhase s phase.Done) (length t) (token-made s t (eqb-true _ _ e)))
+      (λ e. f)
+
+  -- an answer's session is the one that it is given
+  scanned-formed : (g : Scanned) (s' : Session) (len : ℕ) → formed s' len ≡ true → formed (answerOf g s' .session) len ≡ true
+  unfolding answerOf
+  scanned-formed g s' len h = either (λ (a : ScanAnswer). formed (a .session) len ≡ true) (eqb (g .put) 0) (λ e. h) (λ e. h)
+
+  call-formed : (l b : List ℕ) (c : Call) → formed (effectOf c s t l b .returned .session) (length (effectOf c s t l b .table)) ≡ true
+  unfolding newOut writeOut addOut acceptOut blockOut unblockOut removeOut trackOut startOut pauseOut abortOut newEpochOut resetOut checkedBy exportOut
+  call-formed l b (New created) =
+      answered-formed (newCode (length t) created) (newSession (pageCount t) created) (replicate (length t) 0) (new-made (length t) created) (length-replicate (length t) 0)
+  call-formed l b (Write page mark) = page-formed (move.Write mark) page
+  call-formed l b (Add page) = page-formed move.Add page
+  call-formed l b (Accept page) = page-formed move.Accept page
+  call-formed l b (Block page) = page-formed move.Block page
+  call-formed l b (Unblock page) = page-formed move.Unblock page
+  call-formed l b (Remove page) = page-formed move.Remove page
+  call-formed l b Track = swept-formed uncached (trackCode s (length t)) (withTlb s (s .tlb + 1)) (λ e. track-formed means (track-room s (length t) e))
+  call-formed l b Start = swept-formed started (startCode s t) (begun s phase.Live 1) (λ e. start-formed means)
+  call-formed l b Pause = swept-formed uncached (pauseCode s t) (withPhase s phase.Blackout) (pause-made s t)
+  call-formed l b Abort = swept-formed aborted (abortCode s t) (begun s phase.Idle 0) (λ e. abort-formed means)
+  call-formed l b NewEpoch = answered-formed (newEpochCode s (length t)) (withEpoch s (s .epoch + 1)) t (epoch-made s t) refl
+  call-formed l b Reset = answered-formed (resetCode s (length t)) (withCheck s unchecked) t (λ e. reset-formed means) refl
+  call-formed l b StartToken = granted-formed
+  call-formed l b (Dscan first count budget) =
+      dscan-either s t l first count budget (λ (o : ScanOutcome). formed (o .answer .session) (length (o .table)) ≡ true)
+      (λ e. rw (range-length count (dscanOf s first budget) t l) (scanned-formed (rangeRun count (dscanOf s first budget) t l .scanned) s (length t) f))
+      f
+  call-formed l b (Dcheck budget) =
+      dcheck-either s t l budget (λ (o : ScanOutcome). formed (o .answer .session) (length (o .table)) ≡ true)
+      (λ e.
+      let g = dchecked s t l budget .scanned in
+      rw (range-length (s .pages - s .check .place) (dcheckOf s budget) t l) (scanned-formed g (checkedBy s g) (length t) (means-formed (checkedBy s g) (length t) (check-made s t l budget e))))
+      f
+  call-formed l b (Export stream resume info budget) =
+      let x = infoOf info in
+      let ran = exported s t l b stream info budget in
+      either (λ (o : ExportOutcome). formed (o .answer .session) (length (o .table)) ≡ true) (eqb (exportCode s (length t) (length l) (length b) stream resume x) 0)
+      (λ e.
+      rw (export-length (groundOf s) (x .last) budget (standing (begunBy (runOf s stream)) t l b))
+      (means-formed (finishedBy s stream x (ran .at) .session) (length t) (export-made s t l b stream resume info budget (eqb-true _ _ e))))
+      (λ e. f)
+
+pub formed-after : (w : World) (g : Given) → formed (w .session) (length (w .table)) ≡ true → formed (after w g .session) (length (after w g .table)) ≡ true
+formed-after w g f = call-formed (w .session) (w .table) f (g .list) (g .buffer) (g .call)
+
+-- ---- the streams of every call
+
+module _ (s : Session) (t : List ℕ) (n : length (s .streams) ≡ streamPlaces) where
+  answered-streams : (code : ℕ) (s' : Session) (t' : List ℕ) → length (s' .streams) ≡ streamPlaces → length (answered code s t s' t' .answer .session .streams) ≡ streamPlaces
+  answered-streams code s' t' made =
+      answered-either (λ (o : Outcome). length (o .answer .session .streams) ≡ streamPlaces) code s t s' t' (λ e. made) (λ e. n)
+
+  page-streams : (m : Move) (at : ℕ) → length (onPage m s t at .answer .session .streams) ≡ streamPlaces
+  unfolding onPage
+  page-streams m at =
+      let turn = pageTurn m s (length t) at (wordsAt t at) in answered-streams (turn .code) s (putAt t at (turn .words)) n
+
+  swept-streams : (g : Page → Page) (code : ℕ) (s' : Session) → length (s' .streams) ≡ streamPlaces → length (answeredBy g code s s' t .answer .session .streams) ≡ streamPlaces
+  swept-streams g code s' made = answered-streams code s' (sweepOf (sweptWords g) (pageCount t) t) made
+
+  token-streams : length (tokenOut s t .session .streams) ≡ streamPlaces
+  unfolding tokenOut
+  token-streams = either (λ (s' : Session). length (s' .streams) ≡ streamPlaces) (eqb (tokenCode s t) 0) (λ e. n) (λ e. n)
+
+  scanned-streams : (g : Scanned) (s' : Session) → length (s' .streams) ≡ streamPlaces → length (answerOf g s' .session .streams) ≡ streamPlaces
+  unfolding answerOf
+  scanned-streams g s' h = either (λ (a : ScanAnswer). length (a .session .streams) ≡ streamPlaces) (eqb (g .put) 0) (λ e. h) (λ e. h)
+
+  run-streams : (i : ℕ) (r : Run) → length (withRun s i r .streams) ≡ streamPlaces
+  unfolding withRun
+  run-streams i r = either (λ (s' : Session). length (s' .streams) ≡ streamPlaces) (ltb i streamPlaces) (λ e. length-set (s .streams) i (record { run = r }) ∙ n) (λ e. n)
+
+  export-streams : (stream : ℕ) (x : Info) (at : Progress) → length (finishedBy s stream x at .session .streams) ≡ streamPlaces
+  unfolding finishedBy
+  export-streams stream x at =
+      either (λ (a : ExportAnswer). length (a .session .streams) ≡ streamPlaces) (ltb (x .last) (at .next)) (λ e. run-streams stream AtRest) (λ e. run-streams stream (Interrupted (at .next) (x .last) (at .errors) (at .pages)))
+
+  call-streams : (l b : List ℕ) (c : Call) → length (effectOf c s t l b .returned .session .streams) ≡ streamPlaces
+  unfolding newOut writeOut addOut acceptOut blockOut unblockOut removeOut trackOut startOut pauseOut abortOut newEpochOut resetOut checkedBy
+  call-streams l b (New created) = answered-streams (newCode (length t) created) (newSession (pageCount t) created) (replicate (length t) 0) refl
+  call-streams l b (Write page mark) = page-streams (move.Write mark) page
+  call-streams l b (Add page) = page-streams move.Add page
+  call-streams l b (Accept page) = page-streams move.Accept page
+  call-streams l b (Block page) = page-streams move.Block page
+  call-streams l b (Unblock page) = page-streams move.Unblock page
+  call-streams l b (Remove page) = page-streams move.Remove page
+  call-streams l b Track = swept-streams uncached (trackCode s (length t)) (withTlb s (s .tlb + 1)) n
+  call-streams l b Start = swept-streams started (startCode s t) (begun s phase.Live 1) refl
+  call-streams l b Pause = swept-streams uncached (pauseCode s t) (withPhase s phase.Blackout) n
+  call-streams l b Abort = swept-streams aborted (abortCode s t) (begun s phase.Idle 0) refl
+  call-streams l b NewEpoch = answered-streams (newEpochCode s (length t)) (withEpoch s (s .epoch + 1)) t n
+  call-streams l b Reset = answered-streams (resetCode s (length t)) (withCheck s unchecked) t n
+  call-streams l b StartToken = token-streams
+  call-streams l b (Dscan first count budget) =
+      dscan-either s t l first count budget (λ (o : ScanOutcome). length (o .answer .session .streams) ≡ streamPlaces)
+      (λ e. scanned-streams (rangeRun count (dscanOf s first budget) t l .scanned) s n)
+      n
+  call-streams l b (Dcheck budget) =
+      dcheck-either s t l budget (λ (o : ScanOutcome). length (o .answer .session .streams) ≡ streamPlaces)
+      (λ e. scanned-streams (dchecked s t l budget .scanned) (checkedBy s (dchecked s t l budget .scanned)) n)
+      n
+  call-streams l b (Export stream resume info budget) =
+      export-either (λ (o : ExportOutcome). length (o .answer .session .streams) ≡ streamPlaces) s t l b stream resume info budget
+      (export-streams stream (infoOf info) (exported s t l b stream info budget .at))
+      n
+
+-- a session has its eight streams
+pub streams-after : (w : World) (g : Given) → length (w .session .streams) ≡ streamPlaces → length (after w g .session .streams) ≡ streamPlaces
+streams-after w g n = call-streams (w .session) (w .table) n (g .list) (g .buffer) (g .call)
+
+-- ---- histories
+
+-- what a history begins with, New being accepted
+new-begins : (s : Session) (t : List ℕ) (created : ℕ) → accepted (newEffect s t created) ≡ true → (formed (newWorld s t created .session) (length (newWorld s t created .table)) ≡ true) × (length (newWorld s t created .session .streams) ≡ streamPlaces)
+unfolding newOut
+new-begins s t created =
+    answered-either (λ (o : Outcome). eqb (o .answer .code) 0 ≡ true → (formed (o .answer .session) (length (o .table)) ≡ true) × (length (o .answer .session .streams) ≡ streamPlaces))
+    (newCode (length t) created) s t (newSession (pageCount t) created) (replicate (length t) 0)
+    (λ e a. (ap (formed (newSession (pageCount t) created)) (length-replicate (length t) 0) ∙ means-formed (newSession (pageCount t) created) (length t) (new-made (length t) created (eqb-true _ _ e)), refl))
+    (λ e a. absurd (true≢false (sym a ∙ e)))
+
+formed-run : (l : List Given) (w : World) → formed (w .session) (length (w .table)) ≡ true → formed (run w l .session) (length (run w l .table)) ≡ true
+formed-run [] w f = f
+formed-run (g ∷ l) w f = formed-run l (after w g) (formed-after w g f)
+
+streams-run : (l : List Given) (w : World) → length (w .session .streams) ≡ streamPlaces → length (run w l .session .streams) ≡ streamPlaces
+streams-run [] w n = n
+streams-run (g ∷ l) w n = streams-run l (after w g) (streams-after w g n)
+
+pub stays-formed : StaysFormed
+stays-formed =
+    record { formed = λ h. formed-run (h .calls) (newWorld (h .session) (h .words) (h .created)) (new-begins (h .session) (h .words) (h .created) (h .new) .0) }
+
+pub streams-end : (h : History) → length (atEnd h .session .streams) ≡ streamPlaces
+streams-end h = streams-run (h .calls) (newWorld (h .session) (h .words) (h .created)) (new-begins (h .session) (h .words) (h .created) (h .new) .1)

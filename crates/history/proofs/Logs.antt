@@ -1,0 +1,194 @@
+-- A log with the table, and one entry more: a success's word gives its fields back, and its page, with the destination, makes the step of `entry-sends`; a
+-- failure's word is none, and its page stays.
+use mathlib.Core.Path.{_≡_, refl, ap, _∙_}
+use mathlib.Core.Logic.{⊎-elim}
+use mathlib.Core.Bool.{Bool, true, false, cond, not, _&&_, _||_, true≢false}
+use mathlib.Core.List.{List, [], _∷_, _++_, append-nil, List·Memᴰ, List·Memᴰ·not-nil, List·Memᴰ·append-cases, List·Memᴰ·eq-of-singleton}
+use Prim.Native.Nat.{ℕ, _/_, _^_, _≤_, _<_}
+use native.Mathlib.Omega.{arith}
+use lib.Dec.{eqb, lit<}
+use lib.ListN.{length}
+use borrow.Author.Tests.{eqb-true, eqb-false, leb-false}
+use Rattle.words.specs.Entry.{entryOf, withPending, withState, withL2Map, withOperation, withStatus}
+use Rattle.words.specs.Operations as operations
+use Rattle.words.specs.Record.{room}
+use Rattle.words.specs.declared.entries.Entry.{Entry}
+use Rattle.words.proofs.EntryLaws.{entry-fits, entry-word}
+use Rattle.refusals.proofs.Laws.{passed}
+use Rattle.states.specs.Lists.{listingOf}
+use Rattle.states.specs.declared.State.{State}
+use Rattle.states.specs.declared.lists.Listing.{Listing}
+use Rattle.states.specs.declared.State.the-variants.{Free, Blocked, Pending, PendingBlocked, Mapped, Exported, ExportedModified, ExportedBlocked, ExportedRemoved, PendingExported, PendingExportedModified, PendingExportedBlocked, Strange}
+use Rattle.page.specs.declared.Page.{Page}
+use Rattle.table.specs.Table.{pageCount, wordsAt, pageAt}
+use Rattle.table.proofs.Laws.{put-length, put-back}
+use Rattle.session.specs.Session.{among, moving}
+use Rattle.entry.specs.Entry.{unexportable, statusTests, statusOf, answerWord, exportedPage, success, failure, takenOf}
+use Rattle.entry.specs.declared.Ground.{Ground}
+use Rattle.entry.proofs.Laws.{status-lt, status-success, taken-status}
+use Rattle.export.specs.Run.{Standing, wordOf, placeOf, taking, wordsAfter, stepped}
+use Rattle.export.proofs.Moves.{step-page, step-other}
+use Rattle.bundle.specs.Bundle.{Sent, madeBy, Rising, Once}
+use Rattle.bundle.proofs.Replay.{rising-more, once-more, Lawful, lawful-more}
+use Rattle.history.specs.History.{operationOf, sentBy}
+use Rattle.history.proofs.Pages.{Clock, clockOn, stay}
+use Rattle.history.proofs.Entries.{entry-sends, Sends}
+use Rattle.history.proofs.Rows.{Steps, Row, Rows, rows-steps, rows-sent}
+
+-- ---- a log that stands by itself, and with the table
+
+pub record Orderly (log : List Sent) : Type 0 where
+  pub rising : Rising log
+  pub once : Once log
+  pub lawful : Lawful log
+
+pub record Fine (k : Clock) (log : List Sent) (t : List ℕ) : Type 0 where
+  pub rows : Rows k log t
+  pub past : (y : Sent) → List·Memᴰ y log → y .epoch ≤ k .epoch
+  pub inside : (y : Sent) → List·Memᴰ y log → y .page < pageCount t
+
+-- no entry
+pub orderly-none : Orderly []
+orderly-none = record { rising = tt; once = tt; lawful = λ y m. absurd (List·Memᴰ·not-nil m) }
+
+pub fine-none : {k : Clock} {t : List ℕ} → Rows k [] t → Fine k [] t
+fine-none r = record { rows = r; past = λ y m. absurd (List·Memᴰ·not-nil m); inside = λ y m. absurd (List·Memᴰ·not-nil m) }
+
+-- a call that steps every page and makes no entry
+pub fine-steps : {k k' : Clock} {log : List Sent} {t t' : List ℕ} → k .epoch ≤ k' .epoch → Steps k k' t t' → Fine k log t → Fine k' log t'
+fine-steps {log = log} {t = t} {t' = t'} a s f =
+    let e : pageCount t' ≡ pageCount t = ap (λ (n : ℕ). n / 2) (s .size) in
+    record { rows = rows-steps log s (f .rows); past = λ y m. omega (arith, a, f .past y m); inside = λ y m. rw e (f .inside y m) }
+
+-- ---- the word of an entry that was taken
+
+operation-lt : (z : State) → listingOf z .operation < 2 ^ 2
+unfolding listingOf
+operation-lt Free = lit< tt
+operation-lt Blocked = lit< tt
+operation-lt Pending = lit< tt
+operation-lt PendingBlocked = lit< tt
+operation-lt Mapped = lit< tt
+operation-lt Exported = lit< tt
+operation-lt ExportedModified = lit< tt
+operation-lt ExportedBlocked = lit< tt
+operation-lt ExportedRemoved = lit< tt
+operation-lt PendingExported = lit< tt
+operation-lt PendingExportedModified = lit< tt
+operation-lt PendingExportedBlocked = lit< tt
+operation-lt Strange = lit< tt
+
+-- a state that is exported has an operation
+operation-done : (z : State) (d : Bool) → (listingOf z .barred || (listingOf z .sent && not d)) ≡ false → (not (listingOf z .cancelled) && d) ≡ false → eqb (listingOf z .operation) operations.nop ≡ false
+unfolding listingOf
+operation-done Free d a b = absurd (true≢false a)
+operation-done Blocked d a b = absurd (true≢false a)
+operation-done Pending d a b = refl
+operation-done PendingBlocked d a b = absurd (true≢false a)
+operation-done Mapped d a b = refl
+operation-done Exported true a b = absurd (true≢false b)
+operation-done Exported false a b = absurd (true≢false a)
+operation-done ExportedModified d a b = refl
+operation-done ExportedBlocked d a b = refl
+operation-done ExportedRemoved d a b = refl
+operation-done PendingExported true a b = absurd (true≢false b)
+operation-done PendingExported false a b = absurd (true≢false a)
+operation-done PendingExportedModified d a b = refl
+operation-done PendingExportedBlocked d a b = refl
+operation-done Strange d a b = absurd (true≢false a)
+
+-- an entry as it is told, its word read again
+abbrev told : Entry → Bool → ℕ → ℕ → Entry
+told e pending operation status = withStatus (withOperation (withL2Map (withState (withPending e pending) 0) 0) operation) status
+
+told-word : (w : ℕ) (pending : Bool) (operation status : ℕ) → operation < 2 ^ 2 → status < 2 ^ 5 → entryOf (answerWord (entryOf w) pending operation status) ≡ told (entryOf w) pending operation status
+unfolding answerWord
+told-word w pending operation status a b =
+    let f = entry-fits w in
+    entry-word (told (entryOf w) pending operation status)
+    (record { level = f .level; state = lit< tt; reserved5 = f .reserved5; «l2_map» = lit< tt; «mig_type» = f .«mig_type»; gpa = f .gpa; operation = a; reserved54 = f .reserved54; status = b; reserved61 = f .reserved61 })
+
+status-inside : (e : Entry) (p : Page) (g : Ground) → statusOf e p g ≡ 0 → e .gpa < g .pages
+unfolding statusOf
+status-inside e p g h = leb-false (g .pages) (e .gpa) (passed (statusTests e p g) refl h .1 .1 .0)
+
+-- ---- one entry
+
+module _ (g : Ground) (s : Standing) where
+  abbrev page : Page
+  page = pageAt (s .table) (placeOf s)
+
+  abbrev row : Listing
+  row = listingOf (page .state)
+
+  -- what a success sends
+  abbrev sends : Sent
+  sends =
+      record { epoch = g .epoch; page = placeOf s; operation = operationOf (row .operation); pending = row .pending; contents = cond (row .contents) (page .mark) 0 }
+
+  abbrev pub adds : List Sent
+  adds = sentBy (g .epoch) (taking g s .word) (taking g s .buffer)
+
+  pub taken-length : length (stepped g s .table) ≡ length (s .table)
+  unfolding stepped
+  taken-length = put-length (s .table) (placeOf s) (wordsAfter (wordsAt (s .table) (placeOf s)) (taking g s))
+
+  sent-adds : statusOf (entryOf (wordOf s)) page g ≡ 0 → adds ≡ (sends ∷ [])
+  unfolding takenOf success unexportable
+  sent-adds e =
+      let x = status-success (entryOf (wordOf s)) page g e in
+      rw (e, told-word (wordOf s) (row .pending) (row .operation) 0 (operation-lt (page .state)) (lit< tt), operation-done (page .state) (page .dirty) (x .able) (x .clean))
+
+  sent-page : statusOf (entryOf (wordOf s)) page g ≡ 0 → taking g s .page ≡ exportedPage page (row .export) (g .epoch)
+  unfolding takenOf success
+  sent-page e = rw e
+
+  left-adds : eqb (statusOf (entryOf (wordOf s)) page g) 0 ≡ false → adds ≡ []
+  unfolding takenOf failure
+  left-adds e =
+      rw (e, told-word (wordOf s) false operations.nop (statusOf (entryOf (wordOf s)) page g) (lit< tt) (status-lt (entryOf (wordOf s)) page g), e)
+
+  left-words : eqb (statusOf (entryOf (wordOf s)) page g) 0 ≡ false → (i : ℕ) → wordsAt (stepped g s .table) i ≡ wordsAt (s .table) i
+  unfolding stepped wordsAfter
+  left-words e i = go (eqb i (placeOf s)) refl
+    where
+      failed : eqb (taking g s .status) 0 ≡ false
+      failed = ap (λ (n : ℕ). eqb n 0) (taken-status (wordOf s) page g) ∙ e
+
+      go : (b : Bool) → eqb i (placeOf s) ≡ b → wordsAt (stepped g s .table) i ≡ wordsAt (s .table) i
+      go true q = rw (eqb-true i (placeOf s) q, failed) (put-back (s .table) (placeOf s))
+      go false q = step-other g s i (eqb-false _ _ q)
+
+  module _ (moves : among moving (g .phase) ≡ true) (small : g .epoch < room) (size : g .pages ≡ pageCount (s .table)) (log : List Sent) (o : Orderly log) (f : Fine (clockOn g) log (s .table)) where
+    sent-more : statusOf (entryOf (wordOf s)) page g ≡ 0 → Orderly (log ++ (sends ∷ [])) × Fine (clockOn g) (log ++ (sends ∷ [])) (stepped g s .table)
+    sent-more e = (
+      record {
+        rising = rising-more log sends (o .rising) (f .past);
+        once = once-more log sends (o .once) (λ y m a. omega (arith, old .past .below y m a, older));
+        lawful = lawful-more log sends _ (old .has) (old .past) older (n .fits (old .has) (old .ok)) (f .past) (o .lawful);
+      },
+      record {
+        rows = rows-sent (clockOn g) log sends (s .table) (stepped g s .table) _ taken-length l refl (step-page g s small l ∙ sent-page e) (step-other g s) n (f .rows);
+        past = λ y m. ⊎-elim (λ u. f .past y u) (λ u. omega (arith, ap (λ (v : Sent). v .epoch) (List·Memᴰ·eq-of-singleton u))) (List·Memᴰ·append-cases log m);
+        inside = λ y m. rw taken-length (⊎-elim (λ u. f .inside y u) (λ u. omega (arith, l, ap (λ (v : Sent). v .page) (List·Memᴰ·eq-of-singleton u))) (List·Memᴰ·append-cases log m));
+      },
+    )
+      where
+        l : placeOf s < pageCount (s .table)
+        l = omega (arith, size, status-inside (entryOf (wordOf s)) page g e)
+
+        n : Sends (clockOn g) page (exportedPage page (row .export) (g .epoch)) (sends .operation) (madeBy sends)
+        n = entry-sends g (entryOf (wordOf s)) page moves e
+
+        old : Row (clockOn g) log (placeOf s) page
+        old = f .rows (placeOf s) l
+
+        older : page .epoch < g .epoch
+        older = n .older (old .has) (old .ok)
+
+    pub one-more : Orderly (log ++ adds) × Fine (clockOn g) (log ++ adds) (stepped g s .table)
+    one-more = go (eqb (statusOf (entryOf (wordOf s)) page g) 0) refl
+      where
+        go : (b : Bool) → eqb (statusOf (entryOf (wordOf s)) page g) 0 ≡ b → Orderly (log ++ adds) × Fine (clockOn g) (log ++ adds) (stepped g s .table)
+        go true q = rw (sent-adds (eqb-true _ _ q)) (sent-more (eqb-true _ _ q))
+        go false q = rw (left-adds q, append-nil) (o, fine-steps (omega arith) (record { size = taken-length; at = λ i h. rw (left-words q i) (stay (clockOn g) (pageAt (s .table) i)) }) f)

@@ -1,0 +1,149 @@
+-- From one page to the table: what a call does is a step of each page, or one entry more; and what holds of every page with the log.
+use mathlib.Core.Path.{_≡_, refl, sym, _∙_}
+use mathlib.Core.Logic.{_⊎_, inl, inr, ⊎-elim}
+use mathlib.Core.Bool.{Bool, true, false, true≢false}
+use mathlib.Core.List.{List, [], _∷_, _++_}
+use Prim.Native.Nat.{ℕ, _+_, _*_, _≤_, _<_}
+use native.Mathlib.Omega.{arith}
+use lib.Dec.{eqb}
+use lib.ListN.{length}
+use borrow.Author.Tests.{eqb-true, eqb-false}
+use Rattle.words.specs.Record.{room}
+use Rattle.page.specs.Sweeps.{sweptBy, sweptWords, unlessStrange}
+use Rattle.page.specs.declared.Page.{Page}
+use Rattle.page.specs.declared.moves.Move.{Move}
+use Rattle.page.specs.declared.sweeps.Sweep.{Sweep}
+use Rattle.page.proofs.MoveLaws.{sweep-becomes}
+use Rattle.table.specs.Table.{pageCount, wordsAt, pageAt, putAt, sweepOf}
+use Rattle.table.proofs.Laws.{put-length, sweep-length, page-sweep}
+use Rattle.session.specs.Outcome.{Outcome}
+use Rattle.session.specs.declared.Session.{Session}
+use Rattle.session.proofs.Laws.{answered-either}
+use Rattle.memory.specs.Memory.{pageTurn, onPage}
+use Rattle.memory.proofs.Laws.{page-done, page-other}
+use Rattle.scan.specs.Look.{lookOf, LookedAt}
+use Rattle.scan.specs.Scan.{rangeRun}
+use Rattle.scan.specs.declared.Scan.{Scan}
+use Rattle.scan.proofs.RangeLaws.{range-page, range-length}
+use Rattle.scan.proofs.Outcomes.{look-page}
+use Rattle.bundle.specs.Bundle.{Holding, absent, Sent, madeBy}
+use Rattle.bundle.proofs.Replay.{Past, past-none, past-other, past-more}
+use Rattle.history.proofs.Pages.{Clock, clockOf, Ok, Step, stay}
+use Rattle.history.proofs.Moves.{move-step, listed-step}
+use Rattle.history.proofs.Contents.{call-done}
+use Rattle.history.proofs.Entries.{Sends}
+
+same-or : (i j : ℕ) → (i ≡ j) ⊎ (i ≡ j → ⊥)
+same-or i j = go (eqb i j) refl
+  where
+    go : (b : Bool) → eqb i j ≡ b → (i ≡ j) ⊎ (i ≡ j → ⊥)
+    go true e = inl (eqb-true i j e)
+    go false e = inr (eqb-false i j e)
+
+-- ---- steps of all pages
+
+pub record Steps (k k' : Clock) (t t' : List ℕ) : Type 0 where
+  pub size : length t' ≡ length t
+  pub at : (i : ℕ) → i < pageCount t → Step k k' (pageAt t i) (pageAt t' i)
+
+-- ---- a call on one page
+
+page-kept : (m : Move) (s : Session) (t : List ℕ) (at : ℕ) → eqb (onPage m s t at .answer .code) 0 ≡ false → onPage m s t at .table ≡ t
+unfolding onPage
+page-kept m s t at =
+    let turn = pageTurn m s (length t) at (wordsAt t at) in
+    answered-either (λ (o : Outcome). eqb (o .answer .code) 0 ≡ false → o .table ≡ t) (turn .code) s t s (putAt t at (turn .words))
+    (λ q e. absurd (true≢false (sym q ∙ e))) (λ q e. refl)
+
+page-length : (m : Move) (s : Session) (t : List ℕ) (at : ℕ) → length (onPage m s t at .table) ≡ length t
+unfolding onPage
+page-length m s t at =
+    let turn = pageTurn m s (length t) at (wordsAt t at) in
+    answered-either (λ (o : Outcome). length (o .table) ≡ length t) (turn .code) s t s (putAt t at (turn .words)) (λ q. put-length t at (turn .words)) (λ q. refl)
+
+pub page-steps : (m : Move) (s : Session) (t : List ℕ) (at : ℕ) → Steps (clockOf s) (clockOf s) t (onPage m s t at .table)
+page-steps m s t at = record { size = page-length m s t at; at = λ i h. ⊎-elim (same i) (other i) (same-or i at) }
+  where
+    o : Outcome
+    o = onPage m s t at
+
+    here : (b : Bool) → eqb (o .answer .code) 0 ≡ b → Step (clockOf s) (clockOf s) (pageAt t at) (pageAt (o .table) at)
+    here true q =
+        let p = call-done m s t at q in
+        rw (page-done m s t at (eqb-true _ _ q)) (move-step m (clockOf s) (p .0) (pageAt t at) (eqb-true _ _ (p .1)))
+    here false q = rw (page-kept m s t at q) (stay (clockOf s) (pageAt t at))
+
+    same : (i : ℕ) → i ≡ at → Step (clockOf s) (clockOf s) (pageAt t i) (pageAt (o .table) i)
+    same i e = rw e (here (eqb (o .answer .code) 0) refl)
+
+    other : (i : ℕ) → (i ≡ at → ⊥) → Step (clockOf s) (clockOf s) (pageAt t i) (pageAt (o .table) i)
+    other i e = rw (page-other m s t at i e) (stay (clockOf s) (pageAt t i))
+
+-- ---- a call on every page, and a scan
+
+-- the table that a sweep leaves
+abbrev pub swept : Sweep → List ℕ → List ℕ
+swept k t = sweepOf (sweptWords (sweptBy k)) (pageCount t) t
+
+pub swept-length : (k : Sweep) (t : List ℕ) → length (swept k t) ≡ length t
+swept-length k t = sweep-length (sweptWords (sweptBy k)) t (pageCount t)
+
+swept-page : (k : Sweep) (t : List ℕ) (i : ℕ) → i < pageCount t → pageAt (swept k t) i ≡ unlessStrange (sweptBy k) (pageAt t i)
+swept-page k t i h = page-sweep (sweptBy k) (sweep-becomes k) t i h
+
+pub sweep-steps : (x : Sweep) (k k' : Clock) (t : List ℕ) → ((i : ℕ) → i < pageCount t → Step k k' (pageAt t i) (unlessStrange (sweptBy x) (pageAt t i))) → Steps k k' t (swept x t)
+sweep-steps x k k' t s = record { size = swept-length x t; at = λ i h. rw (swept-page x t i h) (s i h) }
+
+pub scan-steps : (k : Clock) (count : ℕ) (scan : Scan) (t l : List ℕ) → scan .tlb ≡ k .tlb → k .tlb < room → 2 * scan .first + 2 * count ≤ length t → Steps k k t (rangeRun count scan t l .part)
+unfolding lookOf
+scan-steps k count scan t l e small fits =
+    record { size = range-length count scan t l; at = λ i h. look i (range-page count scan t l fits i) }
+  where
+    look : (i : ℕ) → LookedAt i (scan .tlb) (wordsAt t i) (wordsAt (rangeRun count scan t l .part) i) → Step k k (pageAt t i) (pageAt (rangeRun count scan t l .part) i)
+    look i (inl q) = rw q (stay k (pageAt t i))
+    look i (inr q) =
+        rw (q .1, e, look-page (wordsAt t i) i (k .tlb) small) (listed-step k (pageAt t i) (q .0))
+
+-- ---- the invariant of a table
+
+pub record Row (k : Clock) (log : List Sent) (i : ℕ) (p : Page) : Type 0 where
+  pub has : Holding
+  pub ok : Ok k p has
+  pub past : Past i log (p .epoch) has
+
+abbrev pub Rows : Clock → List Sent → List ℕ → Type 0
+Rows k log t = (i : ℕ) → i < pageCount t → Row k log i (pageAt t i)
+
+pub rows-steps : {k k' : Clock} (log : List Sent) {t t' : List ℕ} → Steps k k' t t' → Rows k log t → Rows k' log t'
+rows-steps log {t} {t'} s r i h =
+    let h' : i < pageCount t = rw (s .size) at h in
+    record { has = r i h' .has; ok = s .at i h' .ok (r i h' .has) (r i h' .ok); past = rw (s .at i h' .kept) (r i h' .past) }
+
+-- every page anew, with nothing at the destination
+pub rows-anew : (x : Sweep) (k k' : Clock) (log : List Sent) (t : List ℕ) → ((i : ℕ) → i < pageCount t → (h : Holding) → Ok k (pageAt t i) h → Ok k' (unlessStrange (sweptBy x) (pageAt t i)) absent × (unlessStrange (sweptBy x) (pageAt t i) .epoch ≡ 0)) → Rows k log t → Rows k' [] (swept x t)
+rows-anew x k k' log t o r i h =
+    let h' : i < pageCount t = rw (swept-length x t) at h in
+    let y = o i h' (r i h' .has) (r i h' .ok) in
+    rw (swept-page x t i h') (record { has = absent; ok = y .0; past = rw (y .1) (past-none i) })
+
+-- one entry more
+pub rows-sent : (k : Clock) (log : List Sent) (z : Sent) (t t' : List ℕ) (q : Page) → length t' ≡ length t → z .page < pageCount t → z .epoch ≡ k .epoch → pageAt t' (z .page) ≡ q → ((i : ℕ) → (i ≡ z .page → ⊥) → wordsAt t' i ≡ wordsAt t i) → Sends k (pageAt t (z .page)) q (z .operation) (madeBy z) → Rows k log t → Rows k (log ++ (z ∷ [])) t'
+rows-sent k log z t t' q size l b here beside n r i h = ⊎-elim same other (same-or i (z .page))
+  where
+    h' : i < pageCount t
+    h' = rw size at h
+
+    same : i ≡ z .page → Row k (log ++ (z ∷ [])) i (pageAt t' i)
+    same e =
+        let old : Row k log (z .page) (pageAt t (z .page)) = r (z .page) l in
+        rw (e, here)
+        (record {
+          has = madeBy z;
+          ok = n .ok (old .has) (old .ok);
+          past = rw (n .now ∙ sym b) (past-more (z .page) log _ _ (old .past) z refl (omega (arith, b, n .older (old .has) (old .ok))));
+        })
+
+    other : (i ≡ z .page → ⊥) → Row k (log ++ (z ∷ [])) i (pageAt t' i)
+    other e =
+        rw (beside i e)
+        (record { has = r i h' .has; ok = r i h' .ok; past = past-other i log _ _ (r i h' .past) z (λ y. e (sym y)) })

@@ -1,0 +1,188 @@
+-- A session that a call makes of a well-formed one is well-formed for a table of the same length: pages and N stay, and its epochs, its check and its streams
+-- are shown apart, each as it was or as the call makes it.
+use mathlib.Core.Path.{_≡_, refl, sym, ap, _∙_}
+use mathlib.Core.Bool.{Bool, true, false, not, _&&_, true≢false, false≢true}
+use mathlib.Core.List.{List, [], _∷_}
+use Prim.Native.Nat.{ℕ, zero, suc, _+_, _*_, _/_, _%_, _≤_, _<_}
+use native.Mathlib.Omega.{arith}
+use lib.Dec.{eqb, leb}
+use lib.ListN.{getD, set, getD-replicate}
+use borrow.Author.Tests.{lt-ltb, leb-true, eqb-true, eqb-false}
+use Rattle.refusals.proofs.Laws.{and-left, and-right, not-true}
+use Rattle.table.specs.Table.{legal, mostPages}
+use Rattle.session.specs.Session.{among, moving, unchecked, resting, streamPlaces, atRest, newSession, begun, withPhase, withTlb, withEpoch, withCheck, withRun}
+use Rattle.session.specs.Formed.{lastEpoch, fewestCreated, mostCreated, within, runFormed, runResting, usable, streamIs, busy}
+use Rattle.session.specs.declared.Phase.{Phase}
+use Rattle.session.specs.declared.Phase.the-variants.{Idle, Live, Blackout, Done}
+use Rattle.session.specs.declared.Check.{Check}
+use Rattle.session.specs.declared.Session.{Session}
+use Rattle.session.specs.declared.streams.Stream.{Stream}
+use Rattle.session.specs.declared.streams.Run.{Run}
+use Rattle.session.specs.declared.streams.Run.the-variants.{AtRest, Interrupted}
+use Rattle.session.specs.declared.streams.Asked.the-variants as asked
+use Rattle.session.proofs.FormedLaws.{Within, Formed, busy-means}
+
+-- ---- the parts that calls change
+
+record Timed (p : Phase) (m n : ℕ) : Type 0 where
+  tlb : Within 1 lastEpoch m
+  idle : p ≡ Idle → n ≡ 0
+  begun : (p ≡ Idle → ⊥) → Within 1 lastEpoch n
+
+pub record Placed (c : Check) (pages : ℕ) : Type 0 where
+  pub place : c .place ≤ pages
+  pub complete : c .complete ≡ true → c .place ≡ pages
+  pub apart : c .complete ≡ true → c .failed ≡ false
+
+abbrev Streaming : Session → Type 0
+Streaming s = (i : ℕ) → i < streamPlaces → streamIs asked.Formed s i ≡ true
+
+module _ {s : Session} {len : ℕ} (f : Formed s len) where
+  timed : Timed (s .phase) (s .tlb) (s .epoch)
+  timed = record { tlb = f .tlb; idle = f .idle; begun = f .begun }
+
+  placed : Placed (s .check) (s .pages)
+  placed = record { place = f .place; complete = f .complete; apart = f .apart }
+
+  -- the guest is the same
+  again : (s' : Session) → s' .pages ≡ s .pages → s' .created ≡ s .created → Timed (s' .phase) (s' .tlb) (s' .epoch) → Placed (s' .check) (s .pages) → Streaming s' → Formed s' len
+  again s' pages created t c streams =
+      record {
+        even = f .even;
+        some = f .some;
+        most = f .most;
+        ours = f .ours ∙ sym pages;
+        pages = rw pages (f .pages);
+        tlb = t .tlb;
+        idle = t .idle;
+        begun = t .begun;
+        created = rw created (f .created);
+        place = rw pages (c .place);
+        complete = λ q. c .complete q ∙ sym pages;
+        apart = c .apart;
+        streams = streams;
+      }
+
+-- ---- phases
+
+live-is : (p : Phase) → among (Live ∷ []) p ≡ true → p ≡ Live
+live-is Idle e = absurd (false≢true e)
+live-is Live e = refl
+live-is Blackout e = absurd (false≢true e)
+live-is Done e = absurd (false≢true e)
+
+-- a phase of a list without Idle
+pub not-idle : (l : List Phase) (p : Phase) → among l Idle ≡ false → among l p ≡ true → p ≡ Idle → ⊥
+not-idle l p a e q = true≢false (sym e ∙ ap (among l) q ∙ a)
+
+-- ---- a check and streams that begin again
+
+unchecked-placed : (pages : ℕ) → Placed unchecked pages
+unchecked-placed pages = record { place = omega arith; complete = λ q. absurd (false≢true q); apart = λ q. refl }
+
+rest-formed : (may : Bool) (i : ℕ) → i < streamPlaces → runFormed may (getD atRest i resting .run) ≡ true
+rest-formed may i h = ap (λ (z : Stream). runFormed may (z .run)) (getD-replicate streamPlaces i resting resting h)
+
+-- ---- the sessions
+
+pub track-formed : {s : Session} {len : ℕ} → Formed s len → s .tlb < lastEpoch → Formed (withTlb s (s .tlb + 1)) len
+track-formed {s} f h =
+    again f (withTlb s (s .tlb + 1)) refl refl
+    (record { tlb = record { low = omega arith; high = omega arith }; idle = f .idle; begun = f .begun })
+    (placed f) (f .streams)
+
+pub start-formed : {s : Session} {len : ℕ} → Formed s len → Formed (begun s Live 1) len
+start-formed {s} f =
+    again f (begun s Live 1) refl refl
+    (record { tlb = f .tlb; idle = λ q. absurd (not-idle moving Live refl refl q); begun = λ n. record { low = omega arith; high = omega arith } })
+    (unchecked-placed (s .pages)) (λ i. rest-formed (usable s i) i)
+
+pub abort-formed : {s : Session} {len : ℕ} → Formed s len → Formed (begun s Idle 0) len
+abort-formed {s} f =
+    again f (begun s Idle 0) refl refl
+    (record { tlb = f .tlb; idle = λ q. refl; begun = λ n. absurd (n refl) })
+    (unchecked-placed (s .pages)) (λ i. rest-formed false i)
+
+-- streams may be interrupted in Blackout as in Live
+pub pause-formed : {s : Session} {len : ℕ} → Formed s len → among (Live ∷ []) (s .phase) ≡ true → Formed (withPhase s Blackout) len
+pause-formed {s} f e =
+    let live : s .phase ≡ Live = live-is (s .phase) e in
+    again f (withPhase s Blackout) refl refl
+    (record { tlb = f .tlb; idle = λ q. absurd (not-idle moving Blackout refl refl q); begun = λ n. f .begun (not-idle (Live ∷ []) (s .phase) refl e) })
+    (placed f)
+    (λ i h. ap (λ (p : Phase). runFormed (among moving p && usable s i) (getD (s .streams) i resting .run)) (sym live) ∙ f .streams i h)
+
+pub epoch-formed : {s : Session} {len : ℕ} → Formed s len → among moving (s .phase) ≡ true → s .epoch < lastEpoch → Formed (withEpoch s (s .epoch + 1)) len
+epoch-formed {s} f e h =
+    again f (withEpoch s (s .epoch + 1)) refl refl
+    (record { tlb = f .tlb; idle = λ q. absurd (not-idle moving (s .phase) refl e q); begun = λ n. record { low = omega arith; high = omega arith } })
+    (placed f) (f .streams)
+
+pub check-formed : {s : Session} {len : ℕ} → Formed s len → (c : Check) → Placed c (s .pages) → Formed (withCheck s c) len
+check-formed {s} f c p = again f (withCheck s c) refl refl (timed f) p (f .streams)
+
+pub reset-formed : {s : Session} {len : ℕ} → Formed s len → Formed (withCheck s unchecked) len
+reset-formed {s} f = check-formed f unchecked (unchecked-placed (s .pages))
+
+-- in Done no stream is interrupted, since none was
+resting-formed : (may : Bool) (r : Run) → runResting r ≡ true → runFormed may r ≡ true
+resting-formed may AtRest e = refl
+resting-formed may (Interrupted next last errors pages) e = absurd (false≢true e)
+
+pub token-formed : {s : Session} {len : ℕ} → Formed s len → among (Blackout ∷ []) (s .phase) ≡ true → busy s ≡ false → Formed (withPhase s Done) len
+token-formed {s} f e rest =
+    again f (withPhase s Done) refl refl
+    (record { tlb = f .tlb; idle = λ q. absurd (not-idle (Done ∷ []) Done refl refl q); begun = λ n. f .begun (not-idle (Blackout ∷ []) (s .phase) refl e) })
+    (placed f)
+    (λ i h. resting-formed false (getD (s .streams) i resting .run) (busy-means s rest i h))
+
+-- ---- one stream
+
+-- what holds of the stream that is put and of those that were there holds of all
+set-stream : (P : Stream → Type 0) (l : List Stream) (i k : ℕ) (x : Stream) → (k ≡ i → P x) → P (getD l k resting) → P (getD (set l i x) k resting)
+set-stream P [] i k x new old = old
+set-stream P (y ∷ l) zero zero x new old = new refl
+set-stream P (y ∷ l) zero (suc k) x new old = old
+set-stream P (y ∷ l) (suc i) zero x new old = old
+set-stream P (y ∷ l) (suc i) (suc k) x new old = set-stream P l i k x (λ e. new (ap suc e)) old
+
+pub run-formed : {s : Session} {len : ℕ} → Formed s len → (i : ℕ) → i < streamPlaces → (r : Run) → runFormed (among moving (s .phase) && usable s i) r ≡ true → Formed (withRun s i r) len
+unfolding withRun
+run-formed {s} f i h r e =
+    rw (lt-ltb i streamPlaces h)
+    (again f (record { phase = s .phase; pages = s .pages; tlb = s .tlb; epoch = s .epoch; created = s .created; check = s .check; streams = set (s .streams) i (record { run = r }) }) refl refl
+    (timed f) (placed f)
+    (λ k b.
+    set-stream (λ (z : Stream). runFormed (among moving (s .phase) && usable s k) (z .run) ≡ true) (s .streams) i k (record { run = r })
+    (λ q. rw q e)
+    (f .streams k b)))
+
+-- ---- New
+
+pub new-formed : (len created : ℕ) → legal len ≡ true → within fewestCreated mostCreated created ≡ true → Formed (newSession (len / 2) created) len
+unfolding legal
+new-formed len created e w =
+    let a₁ = eqb (len % 2) 0 in
+    let a₂ = not (eqb len 0) in
+    let a₃ = leb len (2 * mostPages) in
+    let even : len % 2 ≡ 0 = eqb-true _ _ (and-left a₁ a₂ (and-left (a₁ && a₂) a₃ e)) in
+    let some : len ≡ 0 → ⊥ = eqb-false _ _ (not-true (eqb len 0) (and-right a₁ a₂ (and-left (a₁ && a₂) a₃ e))) in
+    let most : len ≤ 2 * mostPages = leb-true _ _ (and-right (a₁ && a₂) a₃ e) in
+    record {
+      even = even;
+      some = some;
+      most = most;
+      ours = refl;
+      pages = record { low = omega (arith, even, some); high = omega (arith, most) };
+      tlb = record { low = omega arith; high = omega arith };
+      idle = λ q. refl;
+      begun = λ n. absurd (n refl);
+      created = record {
+        low = leb-true _ _ (and-left (leb fewestCreated created) (leb created mostCreated) w);
+        high = leb-true _ _ (and-right (leb fewestCreated created) (leb created mostCreated) w);
+      };
+      place = omega arith;
+      complete = λ q. absurd (false≢true q);
+      apart = λ q. refl;
+      streams = λ i. rest-formed false i;
+    }

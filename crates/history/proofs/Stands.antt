@@ -1,0 +1,191 @@
+-- The calls that make no entry: each steps every page, or makes every page anew with nothing at the destination.
+use mathlib.Core.Path.{_≡_, refl}
+use mathlib.Core.Bool.{true, false}
+use mathlib.Core.List.{List, [], _∷_}
+use Prim.Native.Nat.{ℕ, _+_, _-_, _*_, _≤_, _<_}
+use native.Mathlib.Omega.{arith}
+use lib.Dec.{eqb}
+use lib.ListN.{length, replicate, length-replicate, getD-replicate}
+use borrow.Author.Tests.{eqb-true, lt-ltb}
+use Rattle.words.specs.Codes as codes
+use Rattle.words.specs.Record.{recordOf, plain, room}
+use Rattle.refusals.specs.Refusals.{_gives_}
+use Rattle.refusals.proofs.Laws.{either}
+use Rattle.states.specs.States.{stateOf}
+use Rattle.states.specs.declared.State.the-variants as state
+use Rattle.page.specs.Page.{pageOf, blocked}
+use Rattle.page.specs.declared.moves.Move.{Move}
+use Rattle.page.specs.declared.sweeps.Sweep.the-variants as sweep
+use Rattle.table.specs.Table.{pageCount, wordsAt, pageAt, putAt, some}
+use Rattle.table.proofs.Laws.{some-none}
+use Rattle.session.specs.Session.{guest, begun, withPhase, withTlb, withEpoch, withCheck, unchecked, newSession}
+use Rattle.session.specs.Formed.{formed, busy}
+use Rattle.session.specs.Outcome.{Outcome}
+use Rattle.session.specs.declared.Phase.{Phase}
+use Rattle.session.specs.declared.Phase.the-variants.{Idle, Live, Blackout, Done}
+use Rattle.session.specs.declared.Session.{Session}
+use Rattle.session.proofs.Laws.{answered-either, gate-open}
+use Rattle.session.proofs.FormedLaws.{formed-means}
+use Rattle.memory.specs.Memory.{newCode, newOut, pageTurn, onPage, trackTests, trackCode, trackOut}
+use Rattle.migration.specs.Migration.{pauseCode, pauseOut, abortCode, abortOut, newEpochCode, newEpochOut, resetCode, resetOut}
+use Rattle.migration.specs.Token.{tokenTests, tokenCode, tokenOut}
+use Rattle.scan.specs.Scan.{rangeRun, answerOf, checkedBy, ScanOutcome, dscanTests, dscanCode, dscanOf, dscanOut, dcheckTests, dcheckCode, dcheckOf, dcheckOut}
+use Rattle.scan.specs.declared.Scan.{Scan}
+use Rattle.scan.specs.declared.Scanned.{Scanned}
+use Rattle.scan.specs.declared.ScanAnswer.{ScanAnswer}
+use Rattle.scan.proofs.Laws.{dscan-fits, dcheck-fits}
+use Rattle.scan.proofs.Outcomes.{dscanned, dscan-either, dchecked, dcheck-either}
+use Rattle.bundle.specs.Bundle.{absent, Sent}
+use Rattle.bundle.proofs.Replay.{past-none}
+use Rattle.history.proofs.Pages.{clockOf}
+use Rattle.history.proofs.Moves.{still-guest}
+use Rattle.history.proofs.Sweeps.{uncached-step, session-step, aborted-ok}
+use Rattle.history.proofs.Sessions.{not-idle}
+use Rattle.history.proofs.Rows.{page-steps, swept, sweep-steps, scan-steps, rows-anew}
+use Rattle.history.proofs.Logs.{Fine, fine-steps, fine-none}
+
+-- the entries since the last start: none in Idle
+abbrev pub since : Phase → List Sent → List Sent
+since Idle log = []
+since Live log = log
+since Blackout log = log
+since Done log = log
+
+-- what a session, a table and a log say together
+abbrev pub Stands : Session → List ℕ → List Sent → Type 0
+Stands s t log = Fine (clockOf s) (since (s .phase) log) t
+
+pub since-begun : (p : Phase) (log : List Sent) → (p ≡ Idle → ⊥) → since p log ≡ log
+since-begun Idle log n = absurd (n refl)
+since-begun Live log n = refl
+since-begun Blackout log n = refl
+since-begun Done log n = refl
+
+-- ---- New
+
+-- a table of zeros
+zero-page : (n i : ℕ) → i < pageCount (replicate n 0) → pageAt (replicate n 0) i ≡ record { state = state.Free; dirty = false; cached = false; stamp = 0; epoch = 0; mark = 0 }
+unfolding wordsAt pageOf plain recordOf stateOf
+zero-page n i h =
+    let size : length {A = ℕ} (replicate n 0) ≡ n = length-replicate {A = ℕ} n 0 in
+    rw (lt-ltb i (pageCount (replicate n 0)) h, getD-replicate {A = ℕ} n (2 * i) 0 0 (omega (arith, h, size)), getD-replicate {A = ℕ} n (2 * i + 1) 0 0 (omega (arith, h, size)))
+
+pub anew-stands : (pages created n : ℕ) (log : List Sent) → Stands (newSession pages created) (replicate n 0) log
+anew-stands pages created n log =
+    fine-none
+    (λ i h. rw (zero-page n i h) (record {
+      has = absent;
+      ok = record { young = omega arith; there = refl; same = tt; seen = λ a b x. refl; still = tt };
+      past = past-none i;
+    }))
+
+-- ---- what comes back of the session
+
+page-session : (m : Move) (s : Session) (t : List ℕ) (at : ℕ) → onPage m s t at .answer .session ≡ s
+unfolding onPage
+page-session m s t at =
+    let turn = pageTurn m s (length t) at (wordsAt t at) in
+    answered-either (λ (o : Outcome). o .answer .session ≡ s) (turn .code) s t s (putAt t at (turn .words)) (λ e. refl) (λ e. refl)
+
+answer-session : (g : Scanned) (s : Session) → answerOf g s .session ≡ s
+unfolding answerOf
+answer-session g s = either (λ (a : ScanAnswer). a .session ≡ s) (eqb (g .put) 0) (λ e. refl) (λ e. refl)
+
+tlb-small : (s : Session) (len : ℕ) → formed s len ≡ true → s .tlb < room
+tlb-small s len e = omega (arith, formed-means s len e .tlb .high)
+
+-- ---- each call
+
+-- what a call leaves, with the log that there was
+abbrev Leaves : List Sent → Outcome → Type 0
+Leaves log o = Stands (o .answer .session) (o .table) log
+
+module _ (s : Session) (t : List ℕ) (log : List Sent) (f : Stands s t log) where
+  -- ---- of memory
+
+  pub new-stands : (created : ℕ) → Leaves log (newOut s t created)
+  unfolding newOut
+  new-stands created =
+      answered-either (Leaves log) (newCode (length t) created) s t (newSession (pageCount t) created) (replicate (length t) 0)
+      (λ e. anew-stands (pageCount t) created (length t) log)
+      (λ e. f)
+
+  pub page-stands : (m : Move) (at : ℕ) → Leaves log (onPage m s t at)
+  page-stands m at = rw (page-session m s t at) (fine-steps (omega arith) (page-steps m s t at) f)
+
+  pub track-stands : Leaves log (trackOut s t)
+  unfolding trackOut trackCode
+  track-stands =
+      answered-either (Leaves log) (trackCode s (length t)) s t (withTlb s (s .tlb + 1)) (swept sweep.Uncache t)
+      (λ e.
+      let o = gate-open s (length t) guest (trackTests s) refl (eqb-true _ _ e) in
+      fine-steps (omega arith) (sweep-steps sweep.Uncache _ _ t (λ i h. uncached-step _ _ (pageAt t i) (omega arith) (λ u. still-guest (s .phase) (o .comes) _ _))) f)
+      (λ e. f)
+
+  -- ---- of the migration
+
+  pub pause-stands : Leaves log (pauseOut s t)
+  unfolding pauseOut pauseCode
+  pause-stands =
+      answered-either (Leaves log) (pauseCode s t) s t (withPhase s Blackout) (swept sweep.Uncache t)
+      (λ e.
+      let o = gate-open s (length t) (Live ∷ []) (some blocked t gives codes.blockedMemoryExists ∷ busy s gives codes.operandBusy ∷ []) refl (eqb-true _ _ e) in
+      fine-steps (omega arith)
+      (sweep-steps sweep.Uncache _ _ t (λ i h. uncached-step _ _ (pageAt t i) (omega arith) (λ u. (refl, some-none blocked t (o .passed .0) i h))))
+      (rw (since-begun (s .phase) log (not-idle (Live ∷ []) (s .phase) refl (o .comes))) at f))
+      (λ e. f)
+
+  pub abort-stands : Leaves log (abortOut s t)
+  unfolding abortOut
+  abort-stands =
+      answered-either (Leaves log) (abortCode s t) s t (begun s Idle 0) (swept sweep.Abort t)
+      (λ e. fine-none (rows-anew sweep.Abort (clockOf s) (clockOf (begun s Idle 0)) (since (s .phase) log) t (λ i h v o. aborted-ok (clockOf s) (clockOf (begun s Idle 0)) (pageAt t i) refl refl v o) (f .rows)))
+      (λ e. f)
+
+  pub epoch-stands : Leaves log (newEpochOut s t)
+  unfolding newEpochOut
+  epoch-stands =
+      answered-either (Leaves log) (newEpochCode s (length t)) s t (withEpoch s (s .epoch + 1)) t
+      (λ e. fine-steps (omega arith) (record { size = refl; at = λ i h. session-step _ _ (pageAt t i) (omega arith) refl (λ u. u) }) f)
+      (λ e. f)
+
+  pub reset-stands : Leaves log (resetOut s t)
+  unfolding resetOut
+  reset-stands =
+      answered-either (Leaves log) (resetCode s (length t)) s t (withCheck s unchecked) t (λ e. f) (λ e. f)
+
+  pub token-stands : Stands (tokenOut s t .session) t log
+  unfolding tokenOut tokenCode
+  token-stands =
+      either (λ (s' : Session). Stands s' t log) (eqb (tokenCode s t) 0)
+      (λ e.
+      let o = gate-open s (length t) (Blackout ∷ []) (tokenTests s t) refl (eqb-true _ _ e) in
+      fine-steps (omega arith)
+      (record { size = refl; at = λ i h. session-step (clockOf s) (clockOf (withPhase s Done)) (pageAt t i) (omega arith) refl (λ u. tt) })
+      (rw (since-begun (s .phase) log (not-idle (Blackout ∷ []) (s .phase) refl (o .comes))) at f))
+      (λ e. f)
+
+  -- ---- the scans
+
+  scan-stands : (count : ℕ) (scan : Scan) (l : List ℕ) → scan .tlb ≡ s .tlb → s .tlb < room → 2 * scan .first + 2 * count ≤ length t → Stands s (rangeRun count scan t l .part) log
+  scan-stands count scan l e small fits = fine-steps (omega arith) (scan-steps (clockOf s) count scan t l e small fits) f
+
+  pub dscan-stands : (l : List ℕ) (first count budget : ℕ) → Stands (dscanOut s t l first count budget .answer .session) (dscanOut s t l first count budget .table) log
+  unfolding dscanCode
+  dscan-stands l first count budget =
+      dscan-either s t l first count budget (λ (o : ScanOutcome). Stands (o .answer .session) (o .table) log)
+      (λ z.
+      let o = gate-open s (length t) (Live ∷ []) (dscanTests s (length l) first count) refl z in
+      rw (answer-session (dscanned s t l first count budget .scanned) s)
+      (scan-stands count (dscanOf s first budget) l refl (tlb-small s (length t) (o .formed)) (dscan-fits s (length t) (length l) first count z .0)))
+      f
+
+  pub dcheck-stands : (l : List ℕ) (budget : ℕ) → Stands (dcheckOut s t l budget .answer .session) (dcheckOut s t l budget .table) log
+  unfolding dcheckCode checkedBy
+  dcheck-stands l budget =
+      dcheck-either s t l budget (λ (o : ScanOutcome). Stands (o .answer .session) (o .table) log)
+      (λ z.
+      let o = gate-open s (length t) (Blackout ∷ []) (dcheckTests s (length l)) refl z in
+      rw (answer-session (dchecked s t l budget .scanned) (checkedBy s (dchecked s t l budget .scanned)))
+      (scan-stands (s .pages - s .check .place) (dcheckOf s budget) l refl (tlb-small s (length t) (o .formed)) (dcheck-fits s (length t) (length l) z .1 .0)))
+      f

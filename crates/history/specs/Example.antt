@@ -1,0 +1,112 @@
+-- A guest of four pages, moved while it runs: whatever the promises ask for is met by it.
+use mathlib.Core.Path.{_≡_}
+use mathlib.Core.Bool.{true, false}
+use mathlib.Core.List.{List, [], _∷_, _++_, List·Memᴰ}
+use Prim.Native.Nat.{ℕ, _+_, _*_, _^_}
+use lib.ListN.{replicate}
+use Rattle.session.specs.Session.{newSession}
+use Rattle.session.specs.declared.Session.{Session}
+use Rattle.calls.specs.declared.Call.{Call}
+use Rattle.calls.specs.declared.Call.the-variants.{Write, Add, Accept, Block, Remove, Track, Start, Pause, NewEpoch, Reset, StartToken, Dscan, Dcheck, Export}
+use Rattle.bundle.specs.Bundle.{migrate, cancel, remigrate, Sent, Order}
+use Rattle.history.specs.History.{Given, given, World, accepted, newEffect, newWorld, run}
+use Rattle.history.specs.Earning.{granted, Paused, reset, nextEpoch, Ask, Fair, checked, complete, Sending, sendingAll, Plan}
+
+-- whatever was there before
+abbrev pub before : Session
+before = newSession 0 0
+
+abbrev pub words : List ℕ
+words = replicate 8 7
+
+-- a call without lists
+abbrev plain : Call → Given
+plain c = given c [] []
+
+-- LAST and FIRST of an info word
+abbrev upTo : ℕ → ℕ → ℕ
+upTo last first = last * 2 ^ 55 + first * 8
+
+-- what the scan lists: pages 0 and 1, and 2, which is pending
+abbrev pub scanned : List ℕ
+scanned = 0x0010000000000000 ∷ 0x0010000000001000 ∷ 0x0010000000002004 ∷ []
+
+-- two pages are the guest's and one is pending; the scan comes, and then page 0 is written, unseen; after a track the list is exported, in two calls; then
+-- page 1 is written again and page 0 removed
+abbrev pub live : List Given
+live =
+    plain (Add 0)
+    ∷ plain (Accept 0)
+    ∷ plain (Write 0 7)
+    ∷ plain (Add 1)
+    ∷ plain (Accept 1)
+    ∷ plain (Write 1 8)
+    ∷ plain (Add 2)
+    ∷ plain Start
+    ∷ given (Dscan 0 4 10) (replicate 4 0) []
+    ∷ plain (Write 0 9)
+    ∷ plain Track
+    ∷ given (Export 0 false (upTo 2 0) 2) scanned (replicate 3 0)
+    ∷ given (Export 0 true (upTo 2 2) 5) scanned (replicate 3 0)
+    ∷ plain (Write 1 5)
+    ∷ plain (Block 0)
+    ∷ plain Track
+    ∷ plain (Remove 0)
+    ∷ []
+
+-- paused; a token that is asked for at once is refused
+abbrev pub toPause : List Given
+toPause = live ++ (plain Pause ∷ plain StartToken ∷ [])
+
+-- what the check lists: page 0, removed, and page 1, written
+abbrev pub left : List ℕ
+left = 0x0010000000000018 ∷ 0x0010000000001008 ∷ []
+
+-- and its entries sent in a new epoch
+abbrev pub toToken : List Given
+toToken =
+    toPause
+    ++ (plain Reset ∷ given (Dcheck 10) (replicate 4 0) [] ∷ plain NewEpoch ∷ given (Export 0 false (upTo 1 0) 5) left (replicate 2 0) ∷ [])
+
+-- what was sent
+abbrev pub sent : List Sent
+sent =
+    record { epoch = 1; page = 0; operation = migrate; pending = false; contents = 9 }
+    ∷ record { epoch = 1; page = 1; operation = migrate; pending = false; contents = 8 }
+    ∷ record { epoch = 1; page = 2; operation = migrate; pending = true; contents = 0 }
+    ∷ record { epoch = 2; page = 0; operation = cancel; pending = false; contents = 0 }
+    ∷ record { epoch = 2; page = 1; operation = remigrate; pending = false; contents = 5 }
+    ∷ []
+
+-- ---- what is met
+
+-- the first two entries of epoch 1 the other way round
+abbrev pub reordered : List Sent
+reordered =
+    record { epoch = 1; page = 1; operation = migrate; pending = false; contents = 8 }
+    ∷ record { epoch = 1; page = 0; operation = migrate; pending = false; contents = 9 }
+    ∷ record { epoch = 1; page = 2; operation = migrate; pending = true; contents = 0 }
+    ∷ record { epoch = 2; page = 0; operation = cancel; pending = false; contents = 0 }
+    ∷ record { epoch = 2; page = 1; operation = remigrate; pending = false; contents = 5 }
+    ∷ []
+
+abbrev pub fresh : World
+fresh = newWorld before words 2
+
+-- a driver's way from the pause to the token
+abbrev pub asks : List Ask
+asks = record { list = replicate 4 0; budget = 10 } ∷ []
+
+abbrev pub sendings : List Sending
+sendings = record { list = left; buffer = replicate 2 0; stream = 0; hpa = 0; budgets = 1 ∷ 0 ∷ 1 ∷ [] } ∷ []
+
+pub record Met : Type 0 where
+  pub new : accepted (newEffect before words 2) ≡ true
+  pub token : granted (run fresh toToken) ≡ true
+  pub log : run fresh toToken .log ≡ sent
+  pub order : Order (run fresh toToken .log) reordered
+  pub stopped : Paused (run fresh toPause)
+  pub fair : (a : Ask) → List·Memᴰ a asks → Fair a
+  pub ended : complete (checked (reset (run fresh toPause)) asks .world) ≡ true
+  pub plan : Plan (run fresh toPause) (checked (reset (run fresh toPause)) asks .lists) sendings
+  pub earned : granted (sendingAll (nextEpoch (checked (reset (run fresh toPause)) asks .world)) sendings) ≡ true

@@ -1,0 +1,4 @@
+pub mod History
+pub mod Earning
+pub mod Promises
+pub mod Example
