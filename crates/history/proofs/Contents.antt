@@ -1,9 +1,9 @@
 -- What the table says that the guest has of a page: the move of a call makes of it what the call means, and everything else keeps it. By document 01's lists
 -- of changes: each change on a list keeps what the page holds, or makes the one thing that its call makes.
-use mathlib.Core.Path.{_≡_, refl, sym, ap, _∙_, subst}
+use mathlib.Core.Path.{_≡_, refl, sym, ap, _∙_}
 use mathlib.Core.Logic.{⊎-elim}
 use mathlib.Core.Bool.{Bool, true, false, cond, not, _&&_, _||_, true≢false, false≢true}
-use mathlib.Core.List.{List, [], _∷_}
+use mathlib.Core.List.{List}
 use Prim.Native.Nat.{ℕ, zero, suc, _+_, _*_, _≤_, _<_}
 use native.Mathlib.Omega.{arith}
 use lib.Dec.{eqb, ltb, leb}
@@ -13,12 +13,12 @@ use Rattle.words.specs.Codes as codes
 use Rattle.words.specs.Entry.{entryOf}
 use Rattle.words.specs.Record.{room, recordOf, plain}
 use Rattle.refusals.proofs.Laws.{either, passed, not-false}
-use Rattle.states.specs.States.{stateOf, numberOf, same}
-use Rattle.states.specs.Rows.{Change, taken, adds, accepts, blocks, unblocks, removes, aborts, rowOf}
+use Rattle.states.specs.States.{stateOf}
+use Rattle.states.specs.Rows.{adds, accepts, blocks, unblocks, removes, aborts, rowOf}
 use Rattle.states.specs.Lists.{looks, exports, listingOf}
 use Rattle.states.specs.declared.State.{State}
 use Rattle.states.specs.declared.State.the-variants.{Free, Blocked, Pending, PendingBlocked, Mapped, Exported, ExportedModified, ExportedBlocked, ExportedRemoved, PendingExported, PendingExportedModified, PendingExportedBlocked, Strange}
-use Rattle.states.proofs.Laws.{state-number}
+use Rattle.states.proofs.Laws.{taken-each}
 use Rattle.page.specs.Page.{pageOf, strange}
 use Rattle.page.specs.Moves.{settled, moveCode, leaveCode, moved, emptied, marked, writeStep, addStep, acceptStep, blockStep, unblockStep, removeStep, stepOf, turnOf}
 use Rattle.page.specs.Sweeps.{sweptBy, unlessStrange, sweptWords}
@@ -53,29 +53,11 @@ use Rattle.export.proofs.Moves.{step-page, step-other}
 use Rattle.bundle.specs.Bundle.{Holding, absent, holds}
 use Rattle.history.specs.Promises.{contentOf, content}
 
--- ---- lists of changes
-
--- P holds of every change on the list
-abbrev Each : (State → State → Type 0) → List Change → Type 0
-Each P [] = Unit
-Each P (c ∷ l) = P (c .from) (c .to) × Each P l
-
-same-is : (a b : State) → same a b ≡ true → a ≡ b
-same-is a b e = sym (state-number a) ∙ ap stateOf (eqb-true (numberOf a) (numberOf b) e) ∙ state-number b
-
--- and so of where the list takes a state, if it holds of a state that is not on it
-taken-each : (P : State → State → Type 0) (l : List Change) → Each P l → (other z : State) → P z other → P z (taken l other z)
-taken-each P [] e other z o = o
-taken-each P (c ∷ l) e other z o =
-    either (λ (to : State). P z to) (same z (c .from))
-    (λ q. subst (λ (x : State). P x (c .to)) (sym (same-is z (c .from) q)) (e .0))
-    (λ q. taken-each P l (e .1) other z o)
+-- ---- the moves of one page
 
 -- a change that keeps what the page holds
 abbrev Keeps : State → State → Type 0
 Keeps z to = (mark : ℕ) → contentOf to mark ≡ contentOf z mark
-
--- ---- the moves of one page
 
 -- what a call that is done leaves the guest of its page
 abbrev pub leaves : Move → Holding → Holding

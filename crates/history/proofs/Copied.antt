@@ -34,8 +34,8 @@ use Rattle.export.proofs.Moves.{exported, export-either}
 use Rattle.calls.specs.Calls.{Effect}
 use Rattle.calls.specs.declared.Call.{Call}
 use Rattle.calls.specs.declared.Call.the-variants.{New, Write, Add, Accept, Block, Unblock, Remove, Track, Start, Pause, Abort, NewEpoch, Reset, StartToken, Dscan, Dcheck, Export}
-use Rattle.bundle.specs.Bundle.{Holding, absent, holds, nothing}
-use Rattle.history.specs.History.{Given, given, World, effectIn, accepted, holding, after, run}
+use Rattle.bundle.specs.Bundle.{Holding, nothing}
+use Rattle.history.specs.History.{Given, given, World, effectIn, accepted, rememberedBy, copiedBy, after, run}
 use Rattle.history.proofs.Contents.{call-done}
 
 -- the guest does not run
@@ -130,18 +130,18 @@ module _ (w : World) (l b : List ℕ) (h : Copied (w .session .phase) (w .memory
   unfolding newOut writeOut addOut acceptOut blockOut unblockOut removeOut trackOut startOut pauseOut abortOut newEpochOut resetOut
   call-copied (New created) =
       answered-copied (newCode (length t) created) s t (newSession (pageCount t) created) (replicate (length t) 0) (w .memory) nothing (w .copy) (w .copy) h (λ e x. absurd x)
-  call-copied (Write page mark) = page-copied (move.Write mark) s t page (w .memory) (holding (w .memory) page (holds false mark)) (w .copy) h
-  call-copied (Add page) = page-copied move.Add s t page (w .memory) (holding (w .memory) page (holds true 0)) (w .copy) h
-  call-copied (Accept page) = page-copied move.Accept s t page (w .memory) (holding (w .memory) page (holds false 0)) (w .copy) h
+  call-copied (Write page mark) = page-copied (move.Write mark) s t page (w .memory) (rememberedBy (Write page mark) (w .memory)) (w .copy) h
+  call-copied (Add page) = page-copied move.Add s t page (w .memory) (rememberedBy (Add page) (w .memory)) (w .copy) h
+  call-copied (Accept page) = page-copied move.Accept s t page (w .memory) (rememberedBy (Accept page) (w .memory)) (w .copy) h
   call-copied (Block page) = page-copied move.Block s t page (w .memory) (w .memory) (w .copy) h
   call-copied (Unblock page) = page-copied move.Unblock s t page (w .memory) (w .memory) (w .copy) h
-  call-copied (Remove page) = page-copied move.Remove s t page (w .memory) (holding (w .memory) page absent) (w .copy) h
+  call-copied (Remove page) = page-copied move.Remove s t page (w .memory) (rememberedBy (Remove page) (w .memory)) (w .copy) h
   call-copied Track =
       answered-copied (trackCode s (length t)) s t (withTlb s (s .tlb + 1)) (sweepOf (sweptWords uncached) (pageCount t) t) (w .memory) (w .memory) (w .copy) (w .copy) h (λ e. h)
   call-copied Start =
       answered-copied (startCode s t) s t (begun s Live 1) (sweepOf (sweptWords started) (pageCount t) t) (w .memory) (w .memory) (w .copy) (w .copy) h (λ e x. absurd x)
   call-copied Pause =
-      answered-copied (pauseCode s t) s t (withPhase s Blackout) (sweepOf (sweptWords uncached) (pageCount t) t) (w .memory) (w .memory) (w .copy) (w .memory) h (λ e x i. refl)
+      answered-copied (pauseCode s t) s t (withPhase s Blackout) (sweepOf (sweptWords uncached) (pageCount t) t) (w .memory) (w .memory) (w .copy) (copiedBy Pause (w .memory) (w .copy)) h (λ e x i. refl)
   call-copied Abort =
       answered-copied (abortCode s t) s t (begun s Idle 0) (sweepOf (sweptWords aborted) (pageCount t) t) (w .memory) (w .memory) (w .copy) (w .copy) h (λ e x. absurd x)
   call-copied NewEpoch =

@@ -29,8 +29,8 @@ use Rattle.entry.specs.Entry.{invalid, unexportable, statusOf, answerWord, succ
 use Rattle.export.specs.Run.{wordsAfter, counted, stepped, exportRun}
 use Rattle.export.specs.Export.{exportCode, groundOf, macPages, nextFirst, finishedBy, exportOut}
 use Rattle.bundle.specs.Bundle.{Sent, Rising}
-use Rattle.history.specs.Earning.{Ask, Fair, Sending, Whole}
-use Rattle.history.specs.Example.{reordered, asks, sendings, fresh, toPause, Met}
+use Rattle.history.specs.Earning.{Fair, Whole}
+use Rattle.history.specs.Example.{reordered, fresh, toPause, Met}
 use Rattle.history.specs.History.{run}
 
 -- epochs in order, by computing

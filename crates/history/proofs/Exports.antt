@@ -1,6 +1,6 @@
 -- An export: along its run the log grows by exactly the entries that succeed, as the words and the buffer that come back tell them; and how far it came is told by
 -- its answer.
-use mathlib.Core.Path.{_≡_, refl, sym, _∙_, subst}
+use mathlib.Core.Path.{_≡_, refl, sym, ap, _∙_, subst}
 use mathlib.Core.Bool.{Bool, true, false, _&&_, true≢false}
 use mathlib.Core.List.{List, _++_, append-assoc, append-nil}
 use Prim.Native.Nat.{ℕ, zero, suc, _+_, _-_, _^_, _≤_, _<_}
@@ -115,7 +115,8 @@ came s stream info at h short =
     (λ q.
     let f = info-fits info in
     let low : at .next < 2 ^ 9 = omega (arith, short, ltb-false (infoOf info .last) (at .next) q) in
-    rw (q, info-word (withFirst (infoOf info) (at .next)) (record { format = f .format; first = low; hpa = f .hpa; zero52 = f .zero52; last = f .last })))
+    let back = info-word (withFirst (infoOf info) (at .next)) (record { format = f .format; first = low; hpa = f .hpa; zero52 = f .zero52; last = f .last }) in
+    rw q (ap (λ (x : Info). x .first) back))
 
 none-came : (info code : ℕ) (s : Session) → eqb code 0 ≡ false → cameTo info (exportNumbers (record { code = code; info = 0; errors = 0; buffers = 0; session = s })) ≡ 0
 unfolding infoOf

@@ -39,8 +39,8 @@ use Rattle.export.specs.Export.{exportTests, exportCode, groundOf, begunBy, Exp
 use Rattle.calls.specs.Calls.{Effect}
 use Rattle.calls.specs.declared.Call.{Call}
 use Rattle.calls.specs.declared.Call.the-variants.{New, Write, Add, Accept, Block, Unblock, Remove, Track, Start, Pause, Abort, NewEpoch, Reset, StartToken, Dscan, Dcheck, Export}
-use Rattle.bundle.specs.Bundle.{Holding, absent, holds, nothing}
-use Rattle.history.specs.History.{Given, given, World, effectIn, accepted, holding, after, run, newWorld, History, atEnd}
+use Rattle.bundle.specs.Bundle.{Holding, nothing}
+use Rattle.history.specs.History.{Given, given, World, effectIn, accepted, rememberedBy, after, run, newWorld, History, atEnd}
 use Rattle.history.specs.Earning.{granted}
 use Rattle.history.specs.Promises.{content, Remembers}
 use Rattle.history.proofs.Contents.{call-done, leaves, step-content, new-content, swept-content, range-content, export-run-content}
@@ -153,12 +153,12 @@ module _ (w : World) (l b : List ℕ) (h : Holds (w .table) (w .memory)) where
   unfolding newOut writeOut addOut acceptOut blockOut unblockOut removeOut trackOut startOut pauseOut abortOut newEpochOut resetOut
   call-holds (New created) =
       answered-holds (newCode (length t) created) s t (newSession (pageCount t) created) (replicate (length t) 0) (w .memory) nothing h (new-holds s t created)
-  call-holds (Write page mark) = page-holds (move.Write mark) s t page (w .memory) (holding (w .memory) page (holds false mark)) h (λ i. refl)
-  call-holds (Add page) = page-holds move.Add s t page (w .memory) (holding (w .memory) page (holds true 0)) h (λ i. refl)
-  call-holds (Accept page) = page-holds move.Accept s t page (w .memory) (holding (w .memory) page (holds false 0)) h (λ i. refl)
+  call-holds (Write page mark) = page-holds (move.Write mark) s t page (w .memory) (rememberedBy (Write page mark) (w .memory)) h (λ i. refl)
+  call-holds (Add page) = page-holds move.Add s t page (w .memory) (rememberedBy (Add page) (w .memory)) h (λ i. refl)
+  call-holds (Accept page) = page-holds move.Accept s t page (w .memory) (rememberedBy (Accept page) (w .memory)) h (λ i. refl)
   call-holds (Block page) = page-holds move.Block s t page (w .memory) (w .memory) h (unmoved (w .memory) page)
   call-holds (Unblock page) = page-holds move.Unblock s t page (w .memory) (w .memory) h (unmoved (w .memory) page)
-  call-holds (Remove page) = page-holds move.Remove s t page (w .memory) (holding (w .memory) page absent) h (λ i. refl)
+  call-holds (Remove page) = page-holds move.Remove s t page (w .memory) (rememberedBy (Remove page) (w .memory)) h (λ i. refl)
   call-holds Track =
       unnoted (left Track) (w .memory) (sweep-holds sweep.Uncache (trackCode s (length t)) s (withTlb s (s .tlb + 1)) t (w .memory) h)
   call-holds Start =
@@ -178,11 +178,11 @@ run-holds : (l : List Given) (w : World) → Holds (w .table) (w .memory) → Ho
 run-holds [] w h = h
 run-holds (g ∷ l) w h = run-holds l (after w g) (call-holds w (g .list) (g .buffer) h (g .call))
 
-pub remembers : (h : History) (i : ℕ) → content (pageAt (atEnd h .table) i) ≡ atEnd h .memory i
-remembers h = run-holds (h .calls) (newWorld (h .session) (h .words) (h .created)) (new-holds (h .session) (h .words) (h .created) (h .new))
+remembered : (h : History) (i : ℕ) → content (pageAt (atEnd h .table) i) ≡ atEnd h .memory i
+remembered h = run-holds (h .calls) (newWorld (h .session) (h .words) (h .created)) (new-holds (h .session) (h .words) (h .created) (h .new))
 
-pub remembers-all : Remembers
-remembers-all = record { marks = remembers }
+pub remembers : Remembers
+remembers = record { marks = remembered }
 
 -- ---- the copy
 

@@ -84,7 +84,7 @@ safe =
     record {
       table = safe-table;
       beyond = safe-beyond;
-      copy = λ h x l o i. safe-table h x l o i ∙ remembers h i ∙ frozen h x i;
+      copy = λ h x l o i. safe-table h x l o i ∙ remembers .marks h i ∙ frozen h x i;
       order = made-order;
     }
 

@@ -9,8 +9,8 @@ use Rattle.states.specs.declared.State.the-variants.{Free, Blocked, Pending, Pe
 use Rattle.page.specs.declared.Page.{Page}
 use Rattle.table.specs.Table.{pageCount, pageAt}
 use Rattle.session.specs.Formed.{formed}
-use Rattle.bundle.specs.Bundle.{Holding, absent, holds, Sent, nothing, replay, Rising, Order, Once, Fits}
-use Rattle.history.specs.History.{World, History, atEnd}
+use Rattle.bundle.specs.Bundle.{Holding, absent, holds, Sent, nothing, replay, Order, Once, Fits}
+use Rattle.history.specs.History.{History, atEnd}
 use Rattle.history.specs.Earning.{granted, Paused, reset, nextEpoch, Ask, Fair, Full, checked, complete, mostLists, Sending, sendingAll, Plan}
 
 -- what the table says of a page: a data page with its mark, a pending one with 0, or nothing

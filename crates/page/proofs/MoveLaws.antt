@@ -5,10 +5,10 @@ use Prim.Native.Nat.{ℕ, _<_}
 use lib.Dec.{eqb, lit<}
 use Rattle.words.specs.Codes as codes
 use Rattle.words.specs.Record.{room}
-use Rattle.states.specs.Rows.{rowOf}
+use Rattle.states.specs.Rows.{aborts, rowOf}
 use Rattle.states.specs.declared.State.{State}
-use Rattle.states.specs.declared.State.the-variants.{Free, Blocked, Pending, PendingBlocked, Mapped, Exported, ExportedModified, ExportedBlocked, ExportedRemoved, PendingExported, PendingExportedModified, PendingExportedBlocked, Strange}
-use Rattle.states.proofs.Laws.{strange-same}
+use Rattle.states.specs.declared.State.the-variants.{Strange}
+use Rattle.states.proofs.Laws.{same-is, taken-each}
 use Rattle.page.specs.Page.{pageOf, strange, tracked}
 use Rattle.page.specs.Moves.{settled, moveCode, leaveCode, moved, emptied, marked, writeStep, addStep, acceptStep, blockStep, unblockStep, removeStep, stepOf, turnOf}
 use Rattle.page.specs.Sweeps.{keptStamp, refreshed, sweptBy, unlessStrange, sweptWords}
@@ -23,7 +23,7 @@ use Rattle.page.proofs.Laws.{Held, Becomes, strange-written}
 
 pub strange-state : (p : Page) → strange p ≡ true → p .state ≡ Strange
 unfolding rowOf
-strange-state p e = strange-same (p .state) e
+strange-state p e = same-is (p .state) Strange e
 
 -- ---- a strange page
 
@@ -128,19 +128,8 @@ step-becomes Remove p tlb r =
 -- an abort takes no page to Strange that is not there already
 abort-known : (z : State) → rowOf z .strange ≡ false → rowOf (rowOf z .abort) .strange ≡ false
 unfolding rowOf
-abort-known Free e = refl
-abort-known Blocked e = refl
-abort-known Pending e = refl
-abort-known PendingBlocked e = refl
-abort-known Mapped e = refl
-abort-known Exported e = refl
-abort-known ExportedModified e = refl
-abort-known ExportedBlocked e = refl
-abort-known ExportedRemoved e = refl
-abort-known PendingExported e = refl
-abort-known PendingExportedModified e = refl
-abort-known PendingExportedBlocked e = refl
-abort-known Strange e = absurd (true≢false e)
+abort-known z e =
+    taken-each (λ (x to : State). rowOf to .strange ≡ false) aborts (refl, (refl, (refl, (refl, (refl, (refl, (refl, tt))))))) z z e
 
 refreshed-held : (p : Page) (to : State) → rowOf to .strange ≡ false → Held p → Held (refreshed p to)
 unfolding keptStamp

@@ -10,9 +10,10 @@ use Rattle.words.specs.Codes as codes
 use Rattle.words.specs.Record.{room}
 use Rattle.refusals.proofs.Laws.{either, first-all}
 use Rattle.states.specs.Rows.{rowOf}
-use Rattle.states.specs.Lists.{listingOf}
+use Rattle.states.specs.Lists.{looks, listingOf}
 use Rattle.states.specs.declared.State.{State}
-use Rattle.states.specs.declared.State.the-variants.{Free, Blocked, Pending, PendingBlocked, Mapped, Exported, ExportedModified, ExportedBlocked, ExportedRemoved, PendingExported, PendingExportedModified, PendingExportedBlocked, Strange}
+use Rattle.states.specs.declared.State.the-variants.{Strange}
+use Rattle.states.proofs.Laws.{taken-each}
 use Rattle.page.specs.Page.{pageOf, strange}
 use Rattle.page.specs.declared.Page.{Page}
 use Rattle.page.specs.declared.records.PageWords.{PageWords}
@@ -32,19 +33,7 @@ use Rattle.scan.proofs.RangeLaws.{range-strange}
 -- being listed takes no state to Strange that is not there already
 look-known : (z : State) → rowOf z .strange ≡ false → rowOf (listingOf z .look) .strange ≡ false
 unfolding listingOf rowOf
-look-known Free e = refl
-look-known Blocked e = refl
-look-known Pending e = refl
-look-known PendingBlocked e = refl
-look-known Mapped e = refl
-look-known Exported e = refl
-look-known ExportedModified e = refl
-look-known ExportedBlocked e = refl
-look-known ExportedRemoved e = refl
-look-known PendingExported e = refl
-look-known PendingExportedModified e = refl
-look-known PendingExportedBlocked e = refl
-look-known Strange e = absurd (true≢false e)
+look-known z e = taken-each (λ (x to : State). rowOf to .strange ≡ false) looks (refl, (refl, tt)) z z e
 
 strange-unlooked : (z : State) → z ≡ Strange → listingOf z .renewed ≡ false
 unfolding listingOf

@@ -1,5 +1,6 @@
--- A state's number names it, and no other number does; and the numbers that a list word has for it fit their runs.
-use mathlib.Core.Path.{_≡_, refl, sym, ap, _∙_}
+-- A state's number names it, and no other number does; what holds of each change on a list holds of where it takes a state; and the numbers that a list word has
+-- for a state fit their runs.
+use mathlib.Core.Path.{_≡_, refl, sym, ap, _∙_, subst}
 use mathlib.Core.Bool.{Bool, true, false, cond, _&&_, true≢false}
 use mathlib.Core.List.{List, [], _∷_}
 use Prim.Native.Nat.{ℕ, _^_, _<_}
@@ -7,7 +8,7 @@ use lib.Dec.{eqb, ltb, lit<}
 use borrow.Author.Tests.{eqb-true, ltb-true}
 use Rattle.refusals.proofs.Laws.{either, and-left, and-right}
 use Rattle.states.specs.States.{numberOf, plainStates, numbered, stateOf, same}
-use Rattle.states.specs.Rows.{rowOf}
+use Rattle.states.specs.Rows.{Change, taken, rowOf}
 use Rattle.states.specs.Lists.{Numbered, numberIn, hinted, operated, listingOf}
 use Rattle.states.specs.declared.State.{State}
 use Rattle.states.specs.declared.State.the-variants.{Free, Blocked, Pending, PendingBlocked, Mapped, Exported, ExportedModified, ExportedBlocked, ExportedRemoved, PendingExported, PendingExportedModified, PendingExportedBlocked, Strange}
@@ -56,9 +57,22 @@ pub number-state : (n : ℕ) → same (stateOf n) Strange ≡ false → numberOf
 unfolding stateOf
 number-state n e = numbered-number plainStates n e
 
--- a state that is as good as Strange is Strange
-pub strange-same : (s : State) → same s Strange ≡ true → s ≡ Strange
-strange-same s e = sym (state-number s) ∙ ap stateOf (eqb-true _ _ e) ∙ state-number Strange
+-- states of one number are one
+pub same-is : (a b : State) → same a b ≡ true → a ≡ b
+same-is a b e = sym (state-number a) ∙ ap stateOf (eqb-true (numberOf a) (numberOf b) e) ∙ state-number b
+
+-- what holds of every change on a list
+abbrev pub Each : (State → State → Type 0) → List Change → Type 0
+Each P [] = Unit
+Each P (c ∷ l) = P (c .from) (c .to) × Each P l
+
+-- holds of where the list takes a state, if it holds of a state that is not on it
+pub taken-each : (P : State → State → Type 0) (l : List Change) → Each P l → (other z : State) → P z other → P z (taken l other z)
+taken-each P [] e other z o = o
+taken-each P (c ∷ l) e other z o =
+    either (λ (to : State). P z to) (same z (c .from))
+    (λ q. subst (λ (x : State). P x (c .to)) (sym (same-is z (c .from) q)) (e .0))
+    (λ q. taken-each P l (e .1) other z o)
 
 -- what an abort makes of a blocked state keeps its stamp, and of no other
 pub abort-stamped : (s : State) → rowOf s .blocked ≡ rowOf (rowOf s .abort) .stamped
