@@ -5,6 +5,7 @@ use Prim.Native.Nat.{ℕ, _^_, _<_}
 use lib.Dec.{eqb, ltb}
 use borrow.Author.Tests.{eqb-true, ltb-true}
 use Rattle.words.specs.Entry.{entryOf}
+use Rattle.words.specs.Operations as operations
 use Rattle.words.specs.Record.{room}
 use Rattle.words.specs.declared.entries.Entry.{Entry}
 use Rattle.refusals.proofs.Laws.{either, passed, first-all}
@@ -62,23 +63,23 @@ strange-status e p g s = go (eqb (statusOf e p g) 0) refl
     go true q = absurd (true≢false (sym barred ∙ status-success e p g (eqb-true _ _ q) .able))
     go false q = refl
 
--- a state that is exported has a move
-export-known : (z : State) (d : Bool) → (listingOf z .barred || (listingOf z .sent && not d)) ≡ false → (not (listingOf z .cancelled) && d) ≡ false → rowOf (listingOf z .export) .strange ≡ false
+-- a state that is exported has a move and an operation
+pub export-known : (z : State) (d : Bool) → (listingOf z .barred || (listingOf z .sent && not d)) ≡ false → (not (listingOf z .cancelled) && d) ≡ false → (rowOf (listingOf z .export) .strange ≡ false) × (eqb (listingOf z .operation) operations.nop ≡ false)
 unfolding listingOf rowOf
 export-known Free d a b = absurd (true≢false a)
 export-known Blocked d a b = absurd (true≢false a)
-export-known Pending d a b = refl
+export-known Pending d a b = (refl, refl)
 export-known PendingBlocked d a b = absurd (true≢false a)
-export-known Mapped d a b = refl
+export-known Mapped d a b = (refl, refl)
 export-known Exported true a b = absurd (true≢false b)
 export-known Exported false a b = absurd (true≢false a)
-export-known ExportedModified d a b = refl
-export-known ExportedBlocked d a b = refl
-export-known ExportedRemoved d a b = refl
+export-known ExportedModified d a b = (refl, refl)
+export-known ExportedBlocked d a b = (refl, refl)
+export-known ExportedRemoved d a b = (refl, refl)
 export-known PendingExported true a b = absurd (true≢false b)
 export-known PendingExported false a b = absurd (true≢false a)
-export-known PendingExportedModified d a b = refl
-export-known PendingExportedBlocked d a b = refl
+export-known PendingExportedModified d a b = (refl, refl)
+export-known PendingExportedBlocked d a b = (refl, refl)
 export-known Strange d a b = absurd (true≢false a)
 
 pub taken-becomes : (w : ℕ) (p : Page) (g : Ground) → g .epoch < room → Becomes p (takenOf w p g .page)
@@ -89,6 +90,6 @@ taken-becomes w p g r =
     let x = status-success (entryOf w) p g (eqb-true _ _ q) in
     record {
       stays = λ s. absurd (true≢false (sym q ∙ strange-status (entryOf w) p g s));
-      holds = λ h. record { known = export-known (p .state) (p .dirty) (x .able) (x .clean); stamp = h .stamp; epoch = r };
+      holds = λ h. record { known = export-known (p .state) (p .dirty) (x .able) (x .clean) .0; stamp = h .stamp; epoch = r };
     })
     (λ q. record { stays = λ s. refl; holds = λ h. h })

@@ -2,7 +2,7 @@
 -- failure's word is none, and its page stays.
 use mathlib.Core.Path.{_≡_, refl, ap, _∙_}
 use mathlib.Core.Logic.{⊎-elim}
-use mathlib.Core.Bool.{Bool, true, false, cond, not, _&&_, _||_, true≢false}
+use mathlib.Core.Bool.{Bool, true, false, cond}
 use mathlib.Core.List.{List, [], _∷_, _++_, append-nil, List·Memᴰ, List·Memᴰ·not-nil, List·Memᴰ·append-cases, List·Memᴰ·eq-of-singleton}
 use Prim.Native.Nat.{ℕ, _/_, _^_, _≤_, _<_}
 use native.Mathlib.Omega.{arith}
@@ -16,16 +16,15 @@ use Rattle.words.specs.declared.entries.Entry.{Entry}
 use Rattle.words.proofs.EntryLaws.{entry-fits, entry-word}
 use Rattle.refusals.proofs.Laws.{passed}
 use Rattle.states.specs.Lists.{listingOf}
-use Rattle.states.specs.declared.State.{State}
 use Rattle.states.specs.declared.lists.Listing.{Listing}
-use Rattle.states.specs.declared.State.the-variants.{Free, Blocked, Pending, PendingBlocked, Mapped, Exported, ExportedModified, ExportedBlocked, ExportedRemoved, PendingExported, PendingExportedModified, PendingExportedBlocked, Strange}
+use Rattle.states.proofs.Laws.{operation-lt}
 use Rattle.page.specs.declared.Page.{Page}
 use Rattle.table.specs.Table.{pageCount, wordsAt, pageAt}
 use Rattle.table.proofs.Laws.{put-length, put-back}
 use Rattle.session.specs.Session.{among, moving}
 use Rattle.entry.specs.Entry.{unexportable, statusTests, statusOf, answerWord, exportedPage, success, failure, takenOf}
 use Rattle.entry.specs.declared.Ground.{Ground}
-use Rattle.entry.proofs.Laws.{status-lt, status-success, taken-status}
+use Rattle.entry.proofs.Laws.{export-known, status-lt, status-success, taken-status}
 use Rattle.export.specs.Run.{Standing, wordOf, placeOf, taking, wordsAfter, stepped}
 use Rattle.export.proofs.Moves.{step-page, step-other}
 use Rattle.bundle.specs.Bundle.{Sent, madeBy, Rising, Once}
@@ -61,41 +60,6 @@ fine-steps {log = log} {t = t} {t' = t'} a s f =
     record { rows = rows-steps log s (f .rows); past = λ y m. omega (arith, a, f .past y m); inside = λ y m. rw e (f .inside y m) }
 
 -- ---- the word of an entry that was taken
-
-operation-lt : (z : State) → listingOf z .operation < 2 ^ 2
-unfolding listingOf
-operation-lt Free = lit< tt
-operation-lt Blocked = lit< tt
-operation-lt Pending = lit< tt
-operation-lt PendingBlocked = lit< tt
-operation-lt Mapped = lit< tt
-operation-lt Exported = lit< tt
-operation-lt ExportedModified = lit< tt
-operation-lt ExportedBlocked = lit< tt
-operation-lt ExportedRemoved = lit< tt
-operation-lt PendingExported = lit< tt
-operation-lt PendingExportedModified = lit< tt
-operation-lt PendingExportedBlocked = lit< tt
-operation-lt Strange = lit< tt
-
--- a state that is exported has an operation
-operation-done : (z : State) (d : Bool) → (listingOf z .barred || (listingOf z .sent && not d)) ≡ false → (not (listingOf z .cancelled) && d) ≡ false → eqb (listingOf z .operation) operations.nop ≡ false
-unfolding listingOf
-operation-done Free d a b = absurd (true≢false a)
-operation-done Blocked d a b = absurd (true≢false a)
-operation-done Pending d a b = refl
-operation-done PendingBlocked d a b = absurd (true≢false a)
-operation-done Mapped d a b = refl
-operation-done Exported true a b = absurd (true≢false b)
-operation-done Exported false a b = absurd (true≢false a)
-operation-done ExportedModified d a b = refl
-operation-done ExportedBlocked d a b = refl
-operation-done ExportedRemoved d a b = refl
-operation-done PendingExported true a b = absurd (true≢false b)
-operation-done PendingExported false a b = absurd (true≢false a)
-operation-done PendingExportedModified d a b = refl
-operation-done PendingExportedBlocked d a b = refl
-operation-done Strange d a b = absurd (true≢false a)
 
 -- an entry as it is told, its word read again
 abbrev told : Entry → Bool → ℕ → ℕ → Entry
@@ -137,7 +101,7 @@ module _ (g : Ground) (s : Standing) where
   unfolding takenOf success unexportable
   sent-adds e =
       let x = status-success (entryOf (wordOf s)) page g e in
-      rw (e, told-word (wordOf s) (row .pending) (row .operation) 0 (operation-lt (page .state)) (lit< tt), operation-done (page .state) (page .dirty) (x .able) (x .clean))
+      rw (e, told-word (wordOf s) (row .pending) (row .operation) 0 (operation-lt (page .state)) (lit< tt), export-known (page .state) (page .dirty) (x .able) (x .clean) .1)
 
   sent-page : statusOf (entryOf (wordOf s)) page g ≡ 0 → taking g s .page ≡ exportedPage page (row .export) (g .epoch)
   unfolding takenOf success

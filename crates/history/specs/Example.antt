@@ -1,6 +1,6 @@
 -- A guest of four pages, moved while it runs: whatever the promises ask for is met by it.
 use mathlib.Core.Path.{_≡_}
-use mathlib.Core.Bool.{true, false}
+use mathlib.Core.Bool.{Bool, true, false}
 use mathlib.Core.List.{List, [], _∷_, _++_, List·Memᴰ}
 use Prim.Native.Nat.{ℕ, _+_, _*_, _^_}
 use lib.ListN.{replicate}
@@ -8,7 +8,7 @@ use Rattle.session.specs.Session.{newSession}
 use Rattle.session.specs.declared.Session.{Session}
 use Rattle.calls.specs.declared.Call.{Call}
 use Rattle.calls.specs.declared.Call.the-variants.{Write, Add, Accept, Block, Remove, Track, Start, Pause, NewEpoch, Reset, StartToken, Dscan, Dcheck, Export}
-use Rattle.bundle.specs.Bundle.{migrate, cancel, remigrate, Sent, Order}
+use Rattle.bundle.specs.Bundle.{Operation, migrate, cancel, remigrate, Sent, Order}
 use Rattle.history.specs.History.{Given, given, World, accepted, newEffect, newWorld, run}
 use Rattle.history.specs.Earning.{granted, Paused, reset, nextEpoch, Ask, Fair, checked, complete, Sending, sendingAll, Plan}
 
@@ -68,27 +68,24 @@ toToken =
     toPause
     ++ (plain Reset ∷ given (Dcheck 10) (replicate 4 0) [] ∷ plain NewEpoch ∷ given (Export 0 false (upTo 1 0) 5) left (replicate 2 0) ∷ [])
 
--- what was sent
+-- what was sent: the list in epoch 1, and what was left of it in epoch 2
+abbrev sentFirst : ℕ → Bool → ℕ → Sent
+sentFirst page pending contents = record { epoch = 1; page = page; operation = migrate; pending = pending; contents = contents }
+
+abbrev sentLast : ℕ → Operation → ℕ → Sent
+sentLast page operation contents = record { epoch = 2; page = page; operation = operation; pending = false; contents = contents }
+
+abbrev rest : List Sent
+rest = sentFirst 2 true 0 ∷ sentLast 0 cancel 0 ∷ sentLast 1 remigrate 5 ∷ []
+
 abbrev pub sent : List Sent
-sent =
-    record { epoch = 1; page = 0; operation = migrate; pending = false; contents = 9 }
-    ∷ record { epoch = 1; page = 1; operation = migrate; pending = false; contents = 8 }
-    ∷ record { epoch = 1; page = 2; operation = migrate; pending = true; contents = 0 }
-    ∷ record { epoch = 2; page = 0; operation = cancel; pending = false; contents = 0 }
-    ∷ record { epoch = 2; page = 1; operation = remigrate; pending = false; contents = 5 }
-    ∷ []
+sent = sentFirst 0 false 9 ∷ sentFirst 1 false 8 ∷ rest
+
+-- two entries of epoch 1 the other way round
+abbrev pub reordered : List Sent
+reordered = sentFirst 1 false 8 ∷ sentFirst 0 false 9 ∷ rest
 
 -- ---- what is met
-
--- the first two entries of epoch 1 the other way round
-abbrev pub reordered : List Sent
-reordered =
-    record { epoch = 1; page = 1; operation = migrate; pending = false; contents = 8 }
-    ∷ record { epoch = 1; page = 0; operation = migrate; pending = false; contents = 9 }
-    ∷ record { epoch = 1; page = 2; operation = migrate; pending = true; contents = 0 }
-    ∷ record { epoch = 2; page = 0; operation = cancel; pending = false; contents = 0 }
-    ∷ record { epoch = 2; page = 1; operation = remigrate; pending = false; contents = 5 }
-    ∷ []
 
 abbrev pub fresh : World
 fresh = newWorld before words 2
