@@ -1,6 +1,7 @@
 -- The entries of a list in turn, in Blackout: each takes from what waits the page that it names, and the words behind it stay as they were.
-use mathlib.Core.Path.{_≡_, sym, ap, _∙_, subst}
+use mathlib.Core.Path.{_≡_, refl, sym, ap, _∙_, subst}
 use mathlib.Core.Logic.{_⊎_, inl, inr, ⊎-elim}
+use mathlib.Core.Bool.{Bool}
 use mathlib.Core.List.{List, [], _∷_, List·Memᴰ, List·Memᴰ·not-nil, List·Memᴰ·cases-cons}
 use Prim.Native.Nat.{ℕ, zero, suc, _+_, _/_, _≤_, _<_}
 use native.Mathlib.Omega.{arith}
@@ -9,23 +10,32 @@ use lib.Dec.{leb}
 use lib.ListN.{length, getD, set, length-set}
 use lib.Seq.{getD-set-other}
 use borrow.Author.Tests.{leb-false}
+use Rattle.words.specs.Info.{infoOf}
 use Rattle.words.specs.Record.{room}
 use Rattle.refusals.proofs.Laws.{either}
 use Rattle.page.specs.Page.{pageOf}
 use Rattle.page.specs.declared.Page.{Page}
 use Rattle.table.specs.Table.{pageCount, wordsAt, pageAt}
 use Rattle.table.proofs.Laws.{put-length}
-use Rattle.session.specs.declared.Phase.the-variants.{Blackout}
+use Rattle.session.specs.Session.{moving, runOf}
+use Rattle.session.specs.declared.Phase.the-variants.{Idle, Blackout}
+use Rattle.session.specs.declared.Session.{Session}
+use Rattle.session.proofs.Laws.{gate-open}
+use Rattle.session.proofs.FormedLaws.{formed-means}
 use Rattle.migration.specs.Grant.{Ready}
 use Rattle.entry.specs.declared.Ground.{Ground}
-use Rattle.export.specs.Run.{Standing, wordOf, placeOf, taking, wordsAfter, counted, stepped, exportRun}
-use Rattle.export.proofs.Moves.{step-page, step-other}
+use Rattle.export.specs.Run.{Standing, standing, wordOf, placeOf, taking, wordsAfter, counted, stepped, exportRun}
+use Rattle.export.specs.Export.{exportTests, exportCode, groundOf, begunBy}
+use Rattle.export.proofs.Laws.{export-ready}
+use Rattle.export.proofs.Moves.{step-page, step-other, exported}
+use Rattle.history.proofs.Sessions.{not-idle}
+use Rattle.history.proofs.Exports.{begins}
 use Rattle.history.proofs.Waiting.{Names, Due, Listed}
 use Rattle.history.proofs.Turns.{ready-stays, due-either, due-taken}
 
--- an entry from `next` on names page i, or one of another list does
-abbrev pub Ahead : List ℕ → ℕ → List (List ℕ) → ℕ → Type 0
-Ahead l next rest i = ((j : ℕ) × (next ≤ j) × (j < length l) × Names (getD l j 0) i) ⊎ Listed rest i
+-- an entry from `next` on, before `to`, names page i, or something else is to come for it
+abbrev pub Ahead : List ℕ → ℕ → ℕ → (ℕ → Type 0) → ℕ → Type 0
+Ahead l next to Else i = ((j : ℕ) × (next ≤ j) × (j < to) × Names (getD l j 0) i) ⊎ Else i
 
 -- a page is ready, or it is due and something holds of it
 abbrev pub Waits : Type 0 → ℕ → Page → Type 0
@@ -37,34 +47,34 @@ waits-map epoch p f (inr x) = inr (x .0, x .1, f (x .2))
 
 -- ---- a list before its first entry, and behind its last one
 
-place-of : (word : ℕ) (l : List ℕ) → List·Memᴰ word l → (j : ℕ) × (j < length l) × (getD l j 0 ≡ word)
+pub place-of : (word : ℕ) (l : List ℕ) → List·Memᴰ word l → (j : ℕ) × (j < length l) × (getD l j 0 ≡ word)
 place-of word [] m = absurd (List·Memᴰ·not-nil m)
 place-of word (x ∷ l) m =
     ⊎-elim (λ e. (0, omega arith, sym e)) (λ n. let r = place-of word l n in (suc (r .0), omega (arith, r .1), r .2)) (List·Memᴰ·cases-cons m)
 
-pub listed-ahead : (l : List ℕ) (rest : List (List ℕ)) (i : ℕ) → Listed (l ∷ rest) i → Ahead l 0 rest i
+pub listed-ahead : (l : List ℕ) (rest : List (List ℕ)) (i : ℕ) → Listed (l ∷ rest) i → Ahead l 0 (length l) (Listed rest) i
 listed-ahead l rest i x = ⊎-elim here (λ m. inr (x .0, m, x .2)) (List·Memᴰ·cases-cons (x .1))
   where
-    here : x .0 ≡ l → Ahead l 0 rest i
+    here : x .0 ≡ l → Ahead l 0 (length l) (Listed rest) i
     here e =
         let at = place-of (x .2 .0) (x .0) (x .2 .1) in
         rw (← e) (inl (at .0, omega arith, at .1, subst (λ (word : ℕ). Names word i) (sym (at .2)) (x .2 .2)))
 
-pub behind-listed : (l : List ℕ) (next : ℕ) (rest : List (List ℕ)) (i : ℕ) → length l ≤ next → Ahead l next rest i → Listed rest i
-behind-listed l next rest i h (inl x) = absurd (omega (arith, x .1, x .2))
-behind-listed l next rest i h (inr x) = x
+pub none-ahead : (l : List ℕ) (next to : ℕ) (Else : ℕ → Type 0) (i : ℕ) → to ≤ next → Ahead l next to Else i → Else i
+none-ahead l next to Else i h (inl x) = absurd (omega (arith, x .1, x .2))
+none-ahead l next to Else i h (inr x) = x
 
 -- ---- in between
 
 -- the lengths stay, and every page is ready or ahead
-pub record Along (epoch : ℕ) (rest : List (List ℕ)) (words entries : ℕ) (s : Standing) : Type 0 where
+pub record Along (epoch : ℕ) (Else : ℕ → Type 0) (words entries to : ℕ) (s : Standing) : Type 0 where
   pub table : length (s .table) ≡ words
   pub list : length (s .list) ≡ entries
   pub buffer : length (s .buffer) ≡ entries
-  pub waits : (i : ℕ) → i < words / 2 → Waits (Ahead (s .list) (s .at .next) rest i) epoch (pageAt (s .table) i)
+  pub waits : (i : ℕ) → i < words / 2 → Waits (Ahead (s .list) (s .at .next) to Else i) epoch (pageAt (s .table) i)
 
-module _ (g : Ground) (paused : g .phase ≡ Blackout) (fits : g .epoch < room) (rest : List (List ℕ)) (words entries : ℕ) (pages : g .pages ≡ words / 2) where
-  module _ (s : Standing) (a : Along (g .epoch) rest words entries s) where
+module _ (g : Ground) (paused : g .phase ≡ Blackout) (fits : g .epoch < room) (Else : ℕ → Type 0) (words entries to : ℕ) (pages : g .pages ≡ words / 2) where
+  module _ (s : Standing) (a : Along (g .epoch) Else words entries to s) where
     inside : (i : ℕ) → i < words / 2 → i < pageCount (s .table)
     inside i h = rw (a .table) h
 
@@ -104,9 +114,9 @@ module _ (g : Ground) (paused : g .phase ≡ Blackout) (fits : g .epoch < room) 
         (subst (λ (k : ℕ). pageAt (s .table) k .epoch < g .epoch) e older))
 
     abbrev After : ℕ → Type 0
-    After i = Ahead (set (s .list) (s .at .next) (taking g s .word)) (s .at .next + 1) rest i
+    After i = Ahead (set (s .list) (s .at .next) (taking g s .word)) (s .at .next + 1) to Else i
 
-    waits-step : (i : ℕ) → i < words / 2 → Waits (Ahead (s .list) (s .at .next) rest i) (g .epoch) (pageAt (s .table) i) → Waits (After i) (g .epoch) (pageAt (stepped g s .table) i)
+    waits-step : (i : ℕ) → i < words / 2 → Waits (Ahead (s .list) (s .at .next) to Else i) (g .epoch) (pageAt (s .table) i) → Waits (After i) (g .epoch) (pageAt (stepped g s .table) i)
     waits-step i h (inl r) = inl (ready-step i h r)
     waits-step i h (inr x) = ⊎-elim here (λ y. later (inr y)) (x .2)
       where
@@ -117,14 +127,14 @@ module _ (g : Ground) (paused : g .phase ≡ Blackout) (fits : g .epoch < room) 
             (λ r. inl r)
             (due-step i h (x .0))
 
-        here : (j : ℕ) × (s .at .next ≤ j) × (j < length (s .list)) × Names (getD (s .list) j 0) i → Waits (After i) (g .epoch) (pageAt (stepped g s .table) i)
+        here : (j : ℕ) × (s .at .next ≤ j) × (j < to) × Names (getD (s .list) j 0) i → Waits (After i) (g .epoch) (pageAt (stepped g s .table) i)
         here y =
             elim (ℕ-discrete (y .0) (s .at .next)) [
               | yes e ↦ inl (due-now i h (subst (λ (k : ℕ). Names (getD (s .list) k 0) i) e (y .3)) (x .0) (x .1))
-              | no ne ↦ later (inl (y .0, omega (arith, y .1, ne), rw (length-set (s .list) (s .at .next) (taking g s .word)) (y .2), rw (getD-set-other (s .list) (s .at .next) (y .0) (taking g s .word) 0 ne) (y .3)))
+              | no ne ↦ later (inl (y .0, omega (arith, y .1, ne), y .2, rw (getD-set-other (s .list) (s .at .next) (y .0) (taking g s .word) 0 ne) (y .3)))
             ]
 
-  along-step : (s : Standing) → Along (g .epoch) rest words entries s → Along (g .epoch) rest words entries (stepped g s)
+  along-step : (s : Standing) → Along (g .epoch) Else words entries to s → Along (g .epoch) Else words entries to (stepped g s)
   unfolding stepped counted
   along-step s a =
       record {
@@ -134,11 +144,26 @@ module _ (g : Ground) (paused : g .phase ≡ Blackout) (fits : g .epoch < room) 
         waits = λ i h. waits-step s a i h (a .waits i h);
       }
 
-  pub along-run : (last budget : ℕ) (s : Standing) → Along (g .epoch) rest words entries s → Along (g .epoch) rest words entries (exportRun g last budget s)
+  pub along-run : (last budget : ℕ) (s : Standing) → Along (g .epoch) Else words entries to s → Along (g .epoch) Else words entries to (exportRun g last budget s)
   unfolding exportRun
   along-run last zero s a = a
   along-run last (suc budget) s a =
-      either (Along (g .epoch) rest words entries) (leb (s .at .next) last) (λ q. along-run last budget (stepped g s) (along-step s a)) (λ q. a)
+      either (Along (g .epoch) Else words entries to) (leb (s .at .next) last) (λ q. along-run last budget (stepped g s) (along-step s a)) (λ q. a)
+
+-- ---- a whole call
+
+-- one that is accepted begins at the FIRST that it was given
+pub call-along : (s : Session) (t l b : List ℕ) (stream : ℕ) (resume : Bool) (info budget : ℕ) (Else : ℕ → Type 0) (to : ℕ) → s .phase ≡ Blackout → exportCode s (length t) (length l) (length b) stream resume (infoOf info) ≡ 0 → ((i : ℕ) → i < pageCount t → Waits (Ahead l (infoOf info .first) to Else i) (s .epoch) (pageAt t i)) → Along (s .epoch) Else (length t) (length l) to (exported s t l b stream info budget)
+unfolding groundOf exportCode
+call-along s t l b stream resume info budget Else to paused e waits =
+    let p = gate-open s (length t) moving (exportTests s (length l) (length b) stream resume (infoOf info)) refl e in
+    let f = formed-means s (length t) (p .formed) in
+    let moves : s .phase ≡ Idle → ⊥ = not-idle moving (s .phase) refl (p .comes) in
+    let ready = export-ready s (length t) (length l) (length b) stream resume (infoOf info) e in
+    let at : begunBy (runOf s stream) .next ≡ infoOf info .first = begins s (length t) (length l) (length b) stream resume (infoOf info) e in
+    along-run (groundOf s) paused (omega (arith, f .begun moves .high)) Else (length t) (length l) to (sym (f .ours)) (infoOf info .last) budget
+    (standing (begunBy (runOf s stream)) t l b)
+    (record { table = refl; list = refl; buffer = ready .same; waits = rw at waits })
 
 -- the budget is used up, or the list is at its end
 pub run-far : (g : Ground) (last budget : ℕ) (s : Standing) → (s .at .next + budget ≤ exportRun g last budget s .at .next) ⊎ (last < exportRun g last budget s .at .next)

@@ -4,7 +4,7 @@ use mathlib.Core.Path.{_≡_, refl}
 use mathlib.Core.Logic.{inl, inr, ⊎-elim}
 use mathlib.Core.Bool.{true, false}
 use mathlib.Core.List.{List, [], _∷_, _++_, append-nil, append-assoc, List·Memᴰ, List·Memᴰ·head, List·Memᴰ·tail, List·Memᴰ·not-nil}
-use Prim.Native.Nat.{ℕ, suc, _+_, _*_, _≤_, _<_}
+use Prim.Native.Nat.{ℕ, zero, suc, _+_, _*_, _≤_, _<_}
 use native.Mathlib.Omega.{arith}
 use native.Mathlib.Nat.{zero-mul, suc-mul, mul-one}
 use lib.Dec.{eqb}
@@ -37,17 +37,6 @@ use Rattle.history.proofs.Dchecks.{Going, GetsOn, dcheck-going, dcheck-
 with-few : (l : List ℕ) (ls : List (List ℕ)) → length (withList l ls) ≤ suc (length ls)
 with-few [] ls = omega arith
 with-few (x ∷ l) ls = omega arith
-
--- each DCHECK gives at most one
-pub check-few : (w : World) (asks : List Ask) → length (checked w asks .lists) ≤ length asks
-check-few w [] = omega arith
-check-few w (a ∷ l) =
-    let e = effectIn w (asking a) in
-    let v = after w (asking a) in
-    let rest = check-few v l in
-    either (λ (r : Checked). length (withList (entriesOf e) (r .lists)) ≤ suc (length l)) (eqb (e .returned .code) codes.checkComplete)
-    (λ z. omega (arith, with-few (entriesOf e) []))
-    (λ z. omega (arith, with-few (entriesOf e) (checked v l .lists), rest))
 
 -- ---- between two DCHECKs
 
@@ -109,6 +98,26 @@ to-end d (a ∷ l) w n c ls m unfinished inside enough far =
     go (inl x) rest = rw (x .0) (x .1)
     go (inr x) rest = rw (x .code) (rest (x .incomplete) (x .inside) (λ b k. enough b (List·Memᴰ·tail k)) (omega (arith, far, x .far, suc-mul (length l) d)))
 
+-- and they give at most as many lists as there are parts of d pages
+few-lists : (d : ℕ) (asks : List Ask) (k : ℕ) (w : World) (n c : ℕ) (ls : List (List ℕ)) → Mid w n c ls → complete w ≡ false → w .session .check .place < n → ((a : Ask) → List·Memᴰ a asks → Enough d n a) → n ≤ w .session .check .place + k * d → length (checked w asks .lists) ≤ k
+few-lists d [] k w n c ls m unfinished inside enough far = omega arith
+few-lists d (a ∷ l) zero w n c ls m unfinished inside enough far = absurd (omega (arith, inside, far, zero-mul d))
+few-lists d (a ∷ l) (suc k) w n c ls m unfinished inside enough far =
+    go (dcheck-gets-on (w .session) (w .table) (a .list) (a .budget) (m .formed) (mid-calm w n c ls m) d n c ls (m .going) unfinished (first .most) (first .room) (first .spent))
+    (few-lists d l k v n c (ls ++ withList (entriesOf (effectIn w (asking a))) []) (asked-mid w n c ls a m))
+  where
+    first : Enough d n a
+    first = enough a (List·Memᴰ·head refl)
+
+    v : World
+    v = after w (asking a)
+
+    go : GetsOn d (w .session .check .place) n (dcheckOut (w .session) (w .table) (a .list) (a .budget) .answer) → (complete v ≡ false → v .session .check .place < n → ((a : Ask) → List·Memᴰ a l → Enough d n a) → n ≤ v .session .check .place + k * d → length (checked v l .lists) ≤ k) → length (checked w (a ∷ l) .lists) ≤ suc k
+    go (inl x) rest = rw (x .0) (omega (arith, with-few (entriesOf (effectIn w (asking a))) []))
+    go (inr x) rest =
+        rw (x .code)
+        (omega (arith, with-few (entriesOf (effectIn w (asking a))) (checked v l .lists), rest (x .incomplete) (x .inside) (λ b k. enough b (List·Memᴰ·tail k)) (omega (arith, far, x .far, suc-mul k d))))
+
 -- ---- the reset
 
 reset-makes : (s : Session) (t : List ℕ) → formed s (length t) ≡ true → s .phase ≡ Blackout → resetOut s t ≡ outcome 0 (withCheck s unchecked) t
@@ -153,12 +162,22 @@ module _ (w : World) (sound : Sound w) (f : formed (w .session) (length (w .tabl
       (λ a k. record { room = fair a k .some; most = fair a k .most; spent = λ i h l. omega (arith, fair a k .budget, h) })
       (omega (arith, mul-one (length asks), ours, far))
 
-  pub check-eight : ((a : Ask) → List·Memᴰ a asks → Full (pageCount (w .table)) a) → length asks ≡ mostLists → complete (checked (reset w) asks .world) ≡ true
+  full-enough : ((a : Ask) → List·Memᴰ a asks → Full (pageCount (w .table)) a) → (a : Ask) → List·Memᴰ a asks → Enough mostEntries (w .session .pages) a
+  full-enough full a k =
+      let m = formed-means (w .session) (length (w .table)) f in
+      record { room = omega (arith, full a k .room); most = omega (arith, full a k .room); spent = λ i h l. absurd (omega (arith, full a k .budget, h, l, m .ours)) }
+
+  pub check-eight : ((a : Ask) → List·Memᴰ a asks → Full (pageCount (w .table)) a) → mostLists ≤ length asks → complete (checked (reset w) asks .world) ≡ true
   check-eight full eight =
       let m = formed-means (w .session) (length (w .table)) f in
-      enough-end mostEntries
-      (λ a k. record { room = omega (arith, full a k .room); most = omega (arith, full a k .room); spent = λ i h l. absurd (omega (arith, full a k .budget, h, l, m .ours)) })
-      (rw eight (m .pages .high))
+      enough-end mostEntries (full-enough full) (omega (arith, eight, m .pages .high))
+
+  pub check-few : ((a : Ask) → List·Memᴰ a asks → Full (pageCount (w .table)) a) → length (checked (reset w) asks .lists) ≤ mostLists
+  check-few full =
+      let m = formed-means (w .session) (length (w .table)) f in
+      let s : resetOut (w .session) (w .table) ≡ outcome 0 (withCheck (w .session) unchecked) (w .table) = reset-makes (w .session) (w .table) f (p .phase) in
+      let place : reset w .session .check .place ≡ 0 = rw s in
+      few-lists mostEntries asks mostLists (reset w) (w .session .pages) (w .session .created) [] (reset-mid w sound f p) (rw s) (omega (arith, place, m .pages .low)) (full-enough full) (omega (arith, place, m .pages .high))
 
 -- ---- the new epoch
 

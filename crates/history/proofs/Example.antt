@@ -2,7 +2,7 @@
 use mathlib.Core.Path.{_≡_, refl, sym, subst}
 use mathlib.Core.Bool.{Bool, true, _&&_}
 use mathlib.Core.Logic.{⊎-elim}
-use mathlib.Core.List.{List, [], _∷_, List·Memᴰ, List·Memᴰ·not-nil, List·Memᴰ·cases-cons, List·Memᴰ·eq-of-singleton, List·Permᴰ·swap, Permᴰ·refl}
+use mathlib.Core.List.{List, [], _∷_, List·Memᴰ, List·Memᴰ·head, List·Memᴰ·tail, List·Memᴰ·not-nil, List·Memᴰ·cases-cons, List·Memᴰ·eq-of-singleton, List·Permᴰ·swap, Permᴰ·refl}
 use Prim.Native.Nat.{ℕ, _≤_}
 use lib.Dec.{leb, lit<, lit≤}
 use borrow.Author.Tests.{leb-true}
@@ -29,9 +29,10 @@ use Rattle.entry.specs.Entry.{invalid, unexportable, statusOf, answerWord, succ
 use Rattle.export.specs.Run.{wordsAfter, counted, stepped, exportRun}
 use Rattle.export.specs.Export.{exportCode, groundOf, macPages, nextFirst, finishedBy, exportOut}
 use Rattle.bundle.specs.Bundle.{Sent, Rising}
-use Rattle.history.specs.Earning.{Fair, Whole}
-use Rattle.history.specs.Example.{reordered, fresh, toPause, Met}
-use Rattle.history.specs.History.{run}
+use Rattle.history.specs.Earning.{Fair, Full, Whole, mostLists}
+use Rattle.history.specs.Example.{reordered, moved, toPause, Met}
+use Rattle.history.specs.History.{atEnd}
+use Rattle.history.proofs.Earned.{alike}
 
 -- epochs in order, by computing
 abbrev from : ℕ → List Sent → Bool
@@ -54,10 +55,6 @@ rising-means : (l : List Sent) → rising l ≡ true → Rising l
 rising-means [] e = tt
 rising-means (x ∷ l) e = (from-means (x .epoch) l (and-left (from (x .epoch) l) (rising l) e), rising-means l (and-right (from (x .epoch) l) (rising l) e))
 
--- a list of one
-only : {A : Type 0} (P : A → Type 0) (x : A) → P x → (y : A) → List·Memᴰ y (x ∷ []) → P y
-only P x p y m = subst P (sym (List·Memᴰ·eq-of-singleton m)) p
-
 pub met : Met
 unfolding recordOf recordWord plain entryOf entryWord infoOf infoWord stateOf rowOf listingOf pageOf held written tracked gives53 gives54 settled moveCode leaveCode writeStep addStep acceptStep blockStep unblockStep removeStep turnOf keptStamp unlessStrange legal wordsAt putAt some runOf withRun numberTests busy formed gated answered newCode newOut pageCode pageTurn onPage writeOut addOut acceptOut blockOut unblockOut removeOut trackCode trackOut startCode startOut pauseCode pauseOut abortCode abortOut newEpochCode newEpochOut resetCode resetOut tokenCode inTheWay tokenFor tokenOut listed listedWord listedPage lookOf stopCode endCode scanRun rangeRun answerOf checkedBy withinTable dscanCode dscanOut dcheckCode dcheckOut invalid unexportable statusOf answerWord success failure takenOf wordsAfter counted stepped exportRun exportCode groundOf macPages nextFirst finishedBy exportOut
 met =
@@ -67,8 +64,18 @@ met =
       log = refl;
       order = record { same = List·Permᴰ·swap refl refl; rising = rising-means reordered refl };
       stopped = record { phase = refl; rest = refl; epoch = lit< tt };
-      fair = only Fair _ (record { some = lit≤ tt; most = lit≤ tt; budget = lit≤ tt });
+      fair = alike Fair _ (record { some = lit≤ tt; most = lit≤ tt; budget = lit≤ tt }) mostLists;
+      enough = lit≤ tt;
+      full = alike (Full 4) _ (record { room = refl; budget = lit≤ tt }) mostLists;
+      eight = refl;
       ended = refl;
-      plan = record { same = Permᴰ·refl _; whole = only (Whole (run fresh toPause)) _ (record { usable = lit< tt; buffer = refl; hpa = lit< tt; budgets = lit≤ tt }) };
+      plan = record { same = Permᴰ·refl _; whole = alike (Whole (atEnd (moved refl toPause))) _ (record { usable = lit< tt; buffer = refl; hpa = lit< tt; budgets = lit≤ tt }) 1 };
       earned = refl;
+      taken = λ l m word k.
+          ⊎-elim
+          (λ q. List·Memᴰ·tail (List·Memᴰ·head q))
+          (λ n. ⊎-elim (λ q. List·Memᴰ·head q) (λ z. absurd (List·Memᴰ·not-nil z)) (List·Memᴰ·cases-cons n))
+          (List·Memᴰ·cases-cons (subst (List·Memᴰ word) (List·Memᴰ·eq-of-singleton m) k));
+      rests = refl;
+      anyhow = refl;
     }

@@ -1,6 +1,6 @@
 -- An export: along its run the log grows by exactly the entries that succeed, as the words and the buffer that come back tell them; and how far it came is told by
 -- its answer.
-use mathlib.Core.Path.{_≡_, refl, sym, ap, _∙_, subst}
+use mathlib.Core.Path.{_≡_, refl, sym, ap, _∙_}
 use mathlib.Core.Bool.{Bool, true, false, _&&_, true≢false}
 use mathlib.Core.List.{List, _++_, append-assoc, append-nil}
 use Prim.Native.Nat.{ℕ, zero, suc, _+_, _-_, _^_, _≤_, _<_}
@@ -9,7 +9,7 @@ use lib.Dec.{eqb, leb, ltb}
 use lib.ListN.{length, set, length-set}
 use lib.Seq.{getD-set-same, getD-set-other}
 use borrow.Author.Tests.{eqb-true, leb-true, ltb-true, ltb-false}
-use Rattle.words.specs.Info.{infoOf, withFirst}
+use Rattle.words.specs.Info.{infoOf, infoWord, withFirst}
 use Rattle.words.specs.Record.{room}
 use Rattle.words.specs.declared.infos.Info.{Info}
 use Rattle.words.proofs.InfoLaws.{info-fits, info-word}
@@ -20,6 +20,7 @@ use Rattle.session.specs.Formed.{lastEntry}
 use Rattle.session.specs.declared.Phase.the-variants.{Idle}
 use Rattle.session.specs.declared.Session.{Session}
 use Rattle.session.specs.declared.streams.Run.{Run}
+use Rattle.session.specs.declared.streams.Stream.{Stream}
 use Rattle.session.specs.declared.streams.Run.the-variants.{AtRest, Interrupted}
 use Rattle.session.proofs.Laws.{gate-open}
 use Rattle.session.proofs.FormedLaws.{formed-means}
@@ -33,10 +34,10 @@ use Rattle.export.proofs.Moves.{exported}
 use Rattle.calls.specs.Calls.{exportNumbers, exportEffect}
 use Rattle.bundle.specs.Bundle.{Sent}
 use Rattle.history.specs.History.{World, sentBy, sentFrom, cameTo, sentIn}
-use Rattle.history.proofs.Pages.{Clock, clockOf, clockOn}
+use Rattle.history.proofs.Pages.{clockOn}
 use Rattle.history.proofs.Sessions.{not-idle}
 use Rattle.history.proofs.Logs.{Orderly, Fine, adds, taken-length, one-more}
-use Rattle.history.proofs.Stands.{since, Stands, since-begun}
+use Rattle.history.proofs.Stands.{Stands, since-begun}
 
 -- ---- words that are not touched, and the one that is
 
@@ -93,7 +94,7 @@ module _ (g : Ground) (moves : among moving (g .phase) ≡ true) (small : g .epo
 -- ---- how far an export came
 
 -- a call that is not refused begins at the FIRST that it was given
-begins : (s : Session) (len entries room stream : ℕ) (resume : Bool) (x : Info) → exportCode s len entries room stream resume x ≡ 0 → begunBy (runOf s stream) .next ≡ x .first
+pub begins : (s : Session) (len entries room stream : ℕ) (resume : Bool) (x : Info) → exportCode s len entries room stream resume x ≡ 0 → begunBy (runOf s stream) .next ≡ x .first
 unfolding exportCode
 begins s len entries room stream resume x e =
     let p = gate-open s len moving (exportTests s entries room stream resume x) refl e .passed in
@@ -106,32 +107,49 @@ begins s len entries room stream resume x e =
         sym (eqb-true (x .first) next (and-left (eqb (x .first) next) (eqb (x .last) last) (not-false (eqb (x .first) next && eqb (x .last) last) a)))
     go false (Interrupted next last errors pages) a b c = absurd (true≢false b)
 
--- what its answer tells
+-- an info word with another FIRST reads back
+pub info-back : (info next : ℕ) → next < 2 ^ 9 → infoOf (infoWord (withFirst (infoOf info) next)) ≡ withFirst (infoOf info) next
+info-back info next low =
+    let f = info-fits info in
+    info-word (withFirst (infoOf info) next) (record { format = f .format; first = low; hpa = f .hpa; zero52 = f .zero52; last = f .last })
+
+-- the entry that a run came to, as its answer tells it
 came : (s : Session) (stream info : ℕ) (at : Progress) → at .next ≤ infoOf info .last + 1 → infoOf info .last ≤ lastEntry → cameTo info (exportNumbers (finishedBy s stream (infoOf info) at)) ≡ at .next
 unfolding finishedBy nextFirst
 came s stream info at h short =
     either (λ (a : ExportAnswer). cameTo info (exportNumbers a) ≡ at .next) (ltb (infoOf info .last) (at .next))
     (λ q. omega (arith, h, ltb-true (infoOf info .last) (at .next) q))
     (λ q.
-    let f = info-fits info in
     let low : at .next < 2 ^ 9 = omega (arith, short, ltb-false (infoOf info .last) (at .next) q) in
-    let back = info-word (withFirst (infoOf info) (at .next)) (record { format = f .format; first = low; hpa = f .hpa; zero52 = f .zero52; last = f .last }) in
-    rw q (ap (λ (x : Info). x .first) back))
+    rw q (ap (λ (x : Info). x .first) (info-back info (at .next) low)))
 
-none-came : (info code : ℕ) (s : Session) → eqb code 0 ≡ false → cameTo info (exportNumbers (record { code = code; info = 0; errors = 0; buffers = 0; session = s })) ≡ 0
+pub ran-came : (s : Session) (t l b : List ℕ) (stream : ℕ) (resume : Bool) (info budget : ℕ) → exportCode s (length t) (length l) (length b) stream resume (infoOf info) ≡ 0 → cameTo info (exportNumbers (finishedBy s stream (infoOf info) (exported s t l b stream info budget .at))) ≡ exported s t l b stream info budget .at .next
+ran-came s t l b stream resume info budget e =
+    let ready = export-ready s (length t) (length l) (length b) stream resume (infoOf info) e in
+    let bounds = run-bounds (groundOf s) (infoOf info .last) budget (standing (begunBy (runOf s stream)) t l b) (record { next = omega (arith, ready .ordered); counts = ready .counts }) in
+    came s stream info (exported s t l b stream info budget .at) (bounds .next) (ready .short)
+
+-- a refusal took none
+pub none-came : (info code : ℕ) (s : Session) → eqb code 0 ≡ false → cameTo info (exportNumbers (record { code = code; info = 0; errors = 0; buffers = 0; session = s })) - infoOf info .first ≡ 0
 unfolding infoOf
-none-came info code s e = rw e (either (λ (n : ℕ). n ≡ 0) (eqb code 1) (λ q. refl) (λ q. refl))
+none-came info code s e =
+    rw e (either (λ (n : ℕ). n - infoOf info .first ≡ 0) (eqb code 1) (λ q. omega arith) (λ q. omega arith))
 
 -- ---- the whole call
 
-run-clock : (s : Session) (stream : ℕ) (run : Run) → clockOf (withRun s stream run) ≡ clockOf s
-unfolding withRun
-run-clock s stream run = either (λ (s' : Session). clockOf s' ≡ clockOf s) (ltb stream streamPlaces) (λ e. refl) (λ e. refl)
+-- of a session it changes the streams alone
+abbrev pub withStreams : Session → List Stream → Session
+withStreams s l =
+    record { phase = s .phase; pages = s .pages; tlb = s .tlb; epoch = s .epoch; created = s .created; check = s .check; streams = l }
 
-finished-clock : (s : Session) (stream : ℕ) (x : Info) (at : Progress) → clockOf (finishedBy s stream x at .session) ≡ clockOf s
+run-streams : (P : Session → Type 0) (s : Session) (stream : ℕ) (run : Run) → ((l : List Stream) → P (withStreams s l)) → P (withRun s stream run)
+unfolding withRun
+run-streams P s stream run p = either P (ltb stream streamPlaces) (λ e. p _) (λ e. p (s .streams))
+
+pub finished-streams : (P : Session → Type 0) (s : Session) (stream : ℕ) (x : Info) (at : Progress) → ((l : List Stream) → P (withStreams s l)) → P (finishedBy s stream x at .session)
 unfolding finishedBy
-finished-clock s stream x at =
-    either (λ (a : ExportAnswer). clockOf (a .session) ≡ clockOf s) (ltb (x .last) (at .next)) (λ e. run-clock s stream _) (λ e. run-clock s stream _)
+finished-streams P s stream x at p =
+    either (λ (a : ExportAnswer). P (a .session)) (ltb (x .last) (at .next)) (λ e. run-streams P s stream _ p) (λ e. run-streams P s stream _ p)
 
 module _ (w : World) (l b : List ℕ) (stream : ℕ) (resume : Bool) (info budget : ℕ) (o : Orderly (w .log)) (f : Stands (w .session) (w .table) (w .log)) where
   abbrev s : Session
@@ -172,14 +190,11 @@ module _ (w : World) (l b : List ℕ) (stream : ℕ) (resume : Bool) (info budge
   ran-logged e =
       let p = gate-open s (length t) moving (exportTests s (length l) (length b) stream resume (infoOf info)) refl e in
       let moves : s .phase ≡ Idle → ⊥ = not-idle moving (s .phase) refl (p .comes) in
-      let ready = export-ready s (length t) (length l) (length b) stream resume (infoOf info) e in
-      let bounds = run-bounds (groundOf s) (infoOf info .last) budget (standing (begunBy (runOf s stream)) t l b) (record { next = omega (arith, ready .ordered); counts = ready .counts }) in
-      let far : cameTo info (exportNumbers (finishedBy s stream (infoOf info) (ran .at))) ≡ ran .at .next = came s stream info (ran .at) (bounds .next) (ready .short) in
       let a = ran-along e in
       let more : List Sent = w .log ++ sentFrom (s .epoch) (ran .list) (ran .buffer) (infoOf info .first) (ran .at .next - infoOf info .first) in
-      rw far (
+      rw (ran-came s t l b stream resume info budget e) (
         a .orderly,
-        subst (λ (k : Clock). Fine k (since (k .phase) more) (ran .table)) (sym (finished-clock s stream (infoOf info) (ran .at))) (rw (since-begun (s .phase) more moves) (a .fine)),
+        finished-streams (λ (s' : Session). Stands s' (ran .table) more) s stream (infoOf info) (ran .at) (λ streams. rw (since-begun (s .phase) more moves) (a .fine)),
       )
 
   pub export-logged : Logged (exportOut s t l b stream resume info budget)
@@ -187,6 +202,4 @@ module _ (w : World) (l b : List ℕ) (stream : ℕ) (resume : Bool) (info budge
   export-logged =
       either Logged (eqb (exportCode s (length t) (length l) (length b) stream resume (infoOf info)) 0)
       (λ e. ran-logged (eqb-true _ _ e))
-      (λ e.
-      let none : 0 - infoOf info .first ≡ 0 = omega arith in
-      rw (none-came info (exportCode s (length t) (length l) (length b) stream resume (infoOf info)) s e, none, append-nil) (o, f))
+      (λ e. rw (none-came info (exportCode s (length t) (length l) (length b) stream resume (infoOf info)) s e, append-nil) (o, f))

@@ -21,6 +21,7 @@ pub mod Dchecks
 pub mod Checks
 pub mod Turns
 pub mod Ahead
+pub mod Anyhow
 pub mod Resuming
 pub mod Lists
 pub mod Earned

@@ -1,31 +1,31 @@
 -- The lists one after the other, in any order: each takes the pages that it names from what waits, and where no list is left nothing waits and the token is
 -- granted.
 use mathlib.Core.Path.{_≡_, refl}
-use mathlib.Core.Logic.{⊎-elim}
 use mathlib.Core.Bool.{true, false}
 use mathlib.Core.List.{List, [], _∷_, map, List·Memᴰ, List·Memᴰ·head, List·Memᴰ·tail, List·Memᴰ·not-nil, List·Permᴰ, Permᴰ·symm}
-use Prim.Native.Nat.{ℕ, _-_, _<_}
+use Prim.Native.Nat.{ℕ, _-_}
 use native.Mathlib.Omega.{arith}
 use lib.Dec.{ltb}
-use lib.ListN.{length, getD}
+use lib.ListN.{length}
 use borrow.Author.Tests.{ltb-true}
 use Rattle.words.specs.Info.{infoOf}
 use Rattle.words.specs.declared.infos.Info.{Info}
 use Rattle.words.proofs.InfoLaws.{info-word}
 use Rattle.refusals.proofs.Laws.{either}
 use Rattle.table.specs.Table.{pageAt}
-use Rattle.session.specs.Session.{resting, streamPlaces, runOf}
+use Rattle.session.specs.Session.{streamPlaces, runOf}
 use Rattle.session.specs.Formed.{busy}
 use Rattle.session.specs.declared.Session.{Session}
 use Rattle.session.specs.declared.streams.Run.{Run}
 use Rattle.session.specs.declared.streams.Run.the-variants.{AtRest}
 use Rattle.session.proofs.FormedLaws.{busy-means}
-use Rattle.migration.proofs.Grant.{resting-is, granted-exactly}
+use Rattle.migration.proofs.Grant.{resting-is}
 use Rattle.bundle.proofs.Replay.{perm-mem}
 use Rattle.history.specs.History.{World}
 use Rattle.history.specs.Earning.{granted, Sending, Whole, firstInfo, sending, sendingAll}
 use Rattle.history.proofs.Waiting.{Listed, Short, Left}
 use Rattle.history.proofs.Ahead.{waits-map, listed-ahead}
+use Rattle.history.proofs.Anyhow.{left-anyhow}
 use Rattle.history.proofs.Resuming.{Going, exported-left}
 
 -- ---- orders of the lists
@@ -45,12 +45,9 @@ left-same w n ls ms p k =
 
 -- ---- one list
 
-all-rest : (s : Session) → busy s ≡ false → (i : ℕ) → i < streamPlaces → getD (s .streams) i resting .run ≡ AtRest
-all-rest s e i h = resting-is _ (busy-means s e i h)
-
 run-rests : (s : Session) → busy s ≡ false → (i : ℕ) → runOf s i ≡ AtRest
 unfolding runOf
-run-rests s e i = either (λ (r : Run). r ≡ AtRest) (ltb i streamPlaces) (λ q. all-rest s e i (ltb-true _ _ q)) (λ q. refl)
+run-rests s e i = either (λ (r : Run). r ≡ AtRest) (ltb i streamPlaces) (λ q. resting-is _ (busy-means s e i (ltb-true _ _ q))) (λ q. refl)
 
 module _ (u w : World) (x : Sending) (rest : List (List ℕ)) (whole : Whole u x) (k : Left w (u .session .created) (x .list ∷ rest)) where
   short : Short (x .list)
@@ -95,17 +92,8 @@ left-all u w [] whole k = k
 left-all u w (x ∷ xs) whole k =
     left-all u (sending w x) xs (λ y m. whole y (List·Memᴰ·tail m)) (left-sending u w x (map (λ (x : Sending). x .list) xs) (whole x (List·Memᴰ·head refl)) k)
 
-nothing-left : (w : World) (n : ℕ) → Left w n [] → granted w ≡ true
-nothing-left w n k =
-    rw (granted-exactly .whenever (w .session) (w .table) (k .formed)
-    (record {
-      paused = k .phase;
-      rest = all-rest (w .session) (k .rest);
-      complete = k .complete;
-      ready = λ i h. ⊎-elim (λ r. r) (λ x. absurd (List·Memᴰ·not-nil (x .2 .1))) (k .pages i h);
-    }))
-
 -- `u` is a world with the streams that were created, as the one in which the check began
 pub left-granted : (u w : World) (ls : List (List ℕ)) (xs : List Sending) → Left w (u .session .created) ls → List·Permᴰ ls (map (λ (x : Sending). x .list) xs) → ((x : Sending) → List·Memᴰ x xs → Whole u x) → granted (sendingAll w xs) ≡ true
 left-granted u w ls xs k p whole =
-    nothing-left (sendingAll w xs) (u .session .created) (left-all u w xs whole (left-same w (u .session .created) ls (map (λ (x : Sending). x .list) xs) p k))
+    let end = left-all u w xs whole (left-same w (u .session .created) ls (map (λ (x : Sending). x .list) xs) p k) in
+    left-anyhow (sendingAll w xs) (u .session .created) [] [] end (λ l m. absurd (List·Memᴰ·not-nil m)) (end .rest)

@@ -14,13 +14,12 @@ use borrow.Author.Tests.{lt-ltb, le-ltb, ltb-true, ltb-false, le-leb, lt-leb, eq
 use Rattle.words.specs.Codes as codes
 use Rattle.words.specs.Info.{infoOf, withFirst}
 use Rattle.words.specs.declared.infos.Info.{Info}
-use Rattle.words.proofs.InfoLaws.{info-fits, info-word}
+use Rattle.words.proofs.InfoLaws.{info-fits}
 use Rattle.refusals.proofs.Laws.{either}
 use Rattle.table.specs.Table.{pageCount, pageAt}
 use Rattle.session.specs.Session.{among, moving, resting, streamPlaces, runOf, withRun}
 use Rattle.session.specs.Formed.{formed, mostEntries, runResting}
-use Rattle.session.specs.declared.Phase.{Phase}
-use Rattle.session.specs.declared.Phase.the-variants.{Idle, Blackout}
+use Rattle.session.specs.declared.Phase.the-variants.{Blackout}
 use Rattle.session.specs.declared.Session.{Session}
 use Rattle.session.specs.declared.streams.Run.{Run}
 use Rattle.session.specs.declared.streams.Stream.{Stream}
@@ -36,8 +35,9 @@ use Rattle.calls.specs.declared.Call.the-variants.{Export}
 use Rattle.history.specs.History.{Given, given, World, effectIn, leftBy, after}
 use Rattle.history.specs.Earning.{total, exported}
 use Rattle.history.proofs.Formed.{formed-after, streams-after}
-use Rattle.history.proofs.Waiting.{Short, Left}
-use Rattle.history.proofs.Ahead.{Ahead, Waits, waits-map, behind-listed, Along, along-run, run-far}
+use Rattle.history.proofs.Exports.{begins, info-back, withStreams}
+use Rattle.history.proofs.Waiting.{Listed, Short, Left}
+use Rattle.history.proofs.Ahead.{Ahead, Waits, waits-map, none-ahead, Along, call-along, run-far}
 
 -- a new call finds its stream at rest and begins with entry 0; a resumed one finds it interrupted at its own FIRST and LAST
 abbrev Stands : Bool → ℕ → ℕ → Run → Type 0
@@ -62,7 +62,7 @@ module _ (n stream entries : ℕ) (rest : List (List ℕ)) where
     pub ordered : next ≤ infoOf info .last
     pub list : length l ≡ entries
     pub buffer : length b ≡ entries
-    pub waits : (i : ℕ) → i < pageCount (w .table) → Waits (Ahead l next rest i) (w .session .epoch) (pageAt (w .table) i)
+    pub waits : (i : ℕ) → i < pageCount (w .table) → Waits (Ahead l next entries (Listed rest) i) (w .session .epoch) (pageAt (w .table) i)
 
   module _ (usable : stream + 1 < n) (most : entries ≤ mostEntries) (lists : (l : List ℕ) → List·Memᴰ l rest → Short l) where
     module _ (w : World) (resume : Bool) (info budget : ℕ) (l b : List ℕ) (next : ℕ) (k : Going w resume info l b next) where
@@ -77,10 +77,10 @@ module _ (n stream entries : ℕ) (rest : List (List ℕ)) where
 
       -- ---- the call is accepted
 
-      stands : (r : Run) → Stands resume next (x .last) r → ((noResumption resume r x ≡ false) × (noNewCall resume r ≡ false)) × ((notFrom0 resume x ≡ false) × (begunBy r .next ≡ next))
-      stands AtRest e = ((rw (e .0), rw (e .0)), (rw (e .0, k .first, e .1), sym (e .1)))
+      stands : (r : Run) → Stands resume next (x .last) r → (noResumption resume r x ≡ false) × (noNewCall resume r ≡ false) × (notFrom0 resume x ≡ false)
+      stands AtRest e = (rw (e .0), rw (e .0), rw (e .0, k .first, e .1))
       stands (Interrupted first end errors pages) e =
-          ((rw (e .0, eq-eqb (x .first) first (k .first ∙ sym (e .1)), eq-eqb (x .last) end (sym (e .2))), rw (e .0)), (rw (e .0), e .1))
+          (rw (e .0, eq-eqb (x .first) first (k .first ∙ sym (e .1)), eq-eqb (x .last) end (sym (e .2))), rw (e .0), rw (e .0))
 
       accepted : exportCode s (length (w .table)) (length l) (length b) stream resume x ≡ 0
       unfolding exportCode
@@ -100,7 +100,7 @@ module _ (n stream entries : ℕ) (rest : List (List ℕ)) where
                     rw (k .format),
                     (
                       rw (k .zeros),
-                      (lt-leb (length l) (x .last) (omega (arith, k .last, k .list)), (stand .0 .0, (stand .0 .1, (stand .1 .0, tt)))),
+                      (lt-leb (length l) (x .last) (omega (arith, k .last, k .list)), (stand .0, (stand .1, (stand .2, tt)))),
                     ),
                   ),
                 ),
@@ -108,25 +108,14 @@ module _ (n stream entries : ℕ) (rest : List (List ℕ)) where
             );
           })
 
-      begins : begunBy (runOf s stream) .next ≡ next
-      begins = stands (runOf s stream) (k .run) .1 .1
-
       -- ---- its entries
 
       abbrev left : Standing
       left = moves.exported s (w .table) l b stream info budget
 
-      along : Along (s .epoch) rest (length (w .table)) entries left
-      unfolding groundOf
+      along : Along (s .epoch) (Listed rest) (length (w .table)) (length l) entries left
       along =
-          let f = formed-means s (length (w .table)) (k .formed) in
-          let begun = f .begun (λ e. paused-begun (s .phase) (k .phase) e) in
-          along-run (groundOf s) (k .phase) (omega (arith, begun .high)) rest (length (w .table)) entries (sym (f .ours)) (x .last) budget
-          (standing (begunBy (runOf s stream)) (w .table) l b)
-          (record { table = refl; list = k .list; buffer = k .buffer; waits = rw begins (k .waits) })
-        where
-          paused-begun : (z : Phase) → z ≡ Blackout → z ≡ Idle → ⊥
-          paused-begun z p q = let o : _≡_ {A = ℕ} 0 1 = cc in omega arith
+          call-along s (w .table) l b stream resume info budget (Listed rest) entries (k .phase) accepted (rw (k .first) (k .waits))
 
       -- ---- what it leaves
 
@@ -145,7 +134,7 @@ module _ (n stream entries : ℕ) (rest : List (List ℕ)) where
           ((o .answer .code ≡ codes.done) × Left (leftBy w g (exportEffect o)) n rest)
           ⊎ ((o .answer .code ≡ codes.interrupted) × ((at : ℕ) × (next + budget ≤ at) × Going (leftBy w g (exportEffect o)) true (o .answer .info) (o .list) (o .buffer) at))
 
-      set-run : (r : Run) → withRun s stream r ≡ record { phase = s .phase; pages = s .pages; tlb = s .tlb; epoch = s .epoch; created = s .created; check = s .check; streams = set (s .streams) stream (record { run = r }) }
+      set-run : (r : Run) → withRun s stream r ≡ withStreams s (set (s .streams) stream (record { run = r }))
       unfolding withRun
       set-run r = rw (lt-ltb stream streamPlaces low)
 
@@ -180,16 +169,14 @@ module _ (n stream entries : ℕ) (rest : List (List ℕ)) where
               complete = rw (set-run AtRest) (k .complete);
               created = rw (set-run AtRest) (k .created);
               lists = lists;
-              pages = λ i h. rw (set-run AtRest) (waits-map (s .epoch) (pageAt (left .table) i) (behind-listed (left .list) (left .at .next) rest i (omega (arith, q, k .last, along .list))) (along .waits i (rw (along .table) at h)));
+              pages = λ i h. rw (set-run AtRest) (waits-map (s .epoch) (pageAt (left .table) i) (none-ahead (left .list) (left .at .next) entries (Listed rest) i (omega (arith, q, k .last))) (along .waits i (rw (along .table) at h)));
             },
           )
 
       next-info : left .at .next ≤ x .last → infoOf (interruptedBy s stream x (left .at) .info) ≡ withFirst x (left .at .next)
       unfolding nextFirst
       next-info q =
-          let f = info-fits info in
-          rw (le-ltb (x .last) (left .at .next) q)
-          (info-word (withFirst x (left .at .next)) (record { format = f .format; first = omega (arith, q, f .last); hpa = f .hpa; zero52 = f .zero52; last = f .last }))
+          rw (le-ltb (x .last) (left .at .next) q) (info-back info (left .at .next) (omega (arith, q, info-fits info .last)))
 
       goes-on : left .at .next ≤ x .last → Kept (ran (interruptedBy s stream x (left .at))) → Came (ran (interruptedBy s stream x (left .at)))
       goes-on q kept =
@@ -198,7 +185,7 @@ module _ (n stream entries : ℕ) (rest : List (List ℕ)) where
             refl,
             (
               left .at .next,
-              ⊎-elim (λ far. omega (arith, far, begins)) (λ end. absurd (omega (arith, end, q))) (run-far (groundOf s) (x .last) budget (standing (begunBy (runOf s stream)) (w .table) l b)),
+              ⊎-elim (λ far. omega (arith, far, begins s (length (w .table)) (length l) (length b) stream resume x accepted, k .first)) (λ end. absurd (omega (arith, end, q))) (run-far (groundOf s) (x .last) budget (standing (begunBy (runOf s stream)) (w .table) l b)),
               record {
                 formed = kept .0;
                 phase = rw (set-run r) (k .phase);
@@ -212,8 +199,8 @@ module _ (n stream entries : ℕ) (rest : List (List ℕ)) where
                 first = rw (next-info q);
                 last = rw (next-info q) (k .last);
                 ordered = rw (next-info q) q;
-                list = along .list;
-                buffer = along .buffer;
+                list = along .list ∙ k .list;
+                buffer = along .buffer ∙ k .list;
                 waits = λ i h. rw (set-run r) (along .waits i (rw (along .table) at h));
               },
             ),

@@ -1,18 +1,18 @@
 -- What a driver does with a paused guest: reset, DCHECKs until one answers 3, a new epoch, and each list exported to its end.
 use mathlib.Core.Path.{_≡_}
 use mathlib.Core.Bool.{Bool, true, false, cond}
-use mathlib.Core.List.{List, [], _∷_, map, List·Memᴰ, List·Permᴰ}
+use mathlib.Core.List.{List, [], _∷_, _++_, map, List·Memᴰ, List·Permᴰ}
 use Prim.Native.Nat.{ℕ, suc, _+_, _-_, _/_, _^_, _≤_, _<_}
-use lib.ListN.{length, take, drop}
+use lib.ListN.{length, take, drop, replicate}
 use lib.Dec.{eqb}
 use Rattle.words.specs.Codes as codes
-use Rattle.words.specs.Info.{infoWord}
+use Rattle.words.specs.Info.{infoOf, infoWord}
 use Rattle.table.specs.Table.{mostPages}
 use Rattle.session.specs.Formed.{mostEntries, lastEpoch, within, busy}
 use Rattle.session.specs.declared.Phase.the-variants.{Blackout}
 use Rattle.calls.specs.Calls.{Effect}
 use Rattle.calls.specs.declared.Call.the-variants.{NewEpoch, Reset, StartToken, Dcheck, Export}
-use Rattle.history.specs.History.{Given, given, World, effectIn, accepted, after}
+use Rattle.history.specs.History.{Given, given, World, effectIn, accepted, cameTo, after}
 
 -- the token, asked for now, is granted
 abbrev pub granted : World → Bool
@@ -76,6 +76,10 @@ checked w (a ∷ l) =
     let rest = cond (eqb (e .returned .code) codes.checkComplete) (record { world = v; lists = [] }) (checked v l) in
     record { world = rest .world; lists = withList (entriesOf e) (rest .lists) }
 
+-- a reset, and then the DCHECKs
+abbrev pub check : World → List Ask → Checked
+check w asks = checked (reset w) asks
+
 -- run to its end
 abbrev pub complete : World → Bool
 complete w = w .session .check .complete
@@ -84,7 +88,15 @@ complete w = w .session .check .complete
 abbrev pub mostLists : ℕ
 mostLists = mostPages / mostEntries
 
--- ---- the lists
+-- eight DCHECKs with rooms of 512, whose budgets are enough for every guest
+abbrev pub fullAsks : List Ask
+fullAsks = replicate mostLists (record { list = replicate mostEntries 0; budget = mostPages })
+
+-- after the check, a new epoch
+abbrev pub prepared : World → List Ask → World
+prepared w asks = nextEpoch (check w asks .world)
+
+-- ---- the lists, one after the other
 
 -- how a list is exported: on which stream, with which buffer and HPA, and the budgets of the first call and of each that resumes it
 pub record Sending : Type 0 where
@@ -128,3 +140,34 @@ sendingAll w (x ∷ l) = sendingAll (sending w x) l
 pub record Plan (w : World) (lists : List (List ℕ)) (xs : List Sending) : Type 0 where
   pub same : List·Permᴰ lists (map (λ (x : Sending). x .list) xs)
   pub whole : (x : Sending) → List·Memᴰ x xs → Whole w x
+
+-- a list on the first stream, in one call
+abbrev pub atOnce : List ℕ → Sending
+atOnce l = record { list = l; buffer = replicate (length l) 0; stream = 0; hpa = 0; budgets = length l ∷ [] }
+
+-- ---- or by any calls of export: lists cut anew, streams by turns, whatever else beside
+
+pub record Exporting : Type 0 where
+  pub stream : ℕ
+  pub resume : Bool
+  pub info : ℕ
+  pub budget : ℕ
+  pub list : List ℕ
+  pub buffer : List ℕ
+
+abbrev pub exporting : Exporting → Given
+exporting x = given (Export (x .stream) (x .resume) (x .info) (x .budget)) (x .list) (x .buffer)
+
+abbrev pub exportingAll : World → List Exporting → World
+exportingAll w [] = w
+exportingAll w (x ∷ l) = exportingAll (after w (exporting x)) l
+
+-- the words that a call took, as they were lent to it: from FIRST as it was given to where it came
+abbrev pub took : World → Exporting → List ℕ
+took w x =
+    let first = infoOf (x .info) .first in
+    take (cameTo (x .info) (effectIn w (exporting x) .returned) - first) (drop first (x .list))
+
+abbrev pub tookAll : World → List Exporting → List ℕ
+tookAll w [] = []
+tookAll w (x ∷ l) = took w x ++ tookAll (after w (exporting x)) l

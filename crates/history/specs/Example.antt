@@ -2,15 +2,17 @@
 use mathlib.Core.Path.{_≡_}
 use mathlib.Core.Bool.{Bool, true, false}
 use mathlib.Core.List.{List, [], _∷_, _++_, List·Memᴰ}
-use Prim.Native.Nat.{ℕ, _+_, _*_, _^_}
-use lib.ListN.{replicate}
+use Prim.Native.Nat.{ℕ, _+_, _*_, _^_, _≤_}
+use lib.ListN.{length, replicate}
 use Rattle.session.specs.Session.{newSession}
 use Rattle.session.specs.declared.Session.{Session}
 use Rattle.calls.specs.declared.Call.{Call}
 use Rattle.calls.specs.declared.Call.the-variants.{Write, Add, Accept, Block, Remove, Track, Start, Pause, NewEpoch, Reset, StartToken, Dscan, Dcheck, Export}
 use Rattle.bundle.specs.Bundle.{Operation, migrate, cancel, remigrate, Sent, Order}
-use Rattle.history.specs.History.{Given, given, World, accepted, newEffect, newWorld, run}
-use Rattle.history.specs.Earning.{granted, Paused, reset, nextEpoch, Ask, Fair, checked, complete, Sending, sendingAll, Plan}
+use Rattle.history.specs.History.{Given, given, accepted, newEffect, History, atEnd}
+use Rattle.table.specs.Table.{pageCount}
+use Rattle.session.specs.Formed.{busy, mostEntries}
+use Rattle.history.specs.Earning.{granted, Paused, Ask, Fair, Full, check, complete, mostLists, prepared, Sending, sendingAll, Plan, Exporting, exportingAll, tookAll}
 
 -- whatever was there before
 abbrev pub before : Session
@@ -87,23 +89,38 @@ reordered = sentFirst 1 false 8 ∷ sentFirst 0 false 9 ∷ rest
 
 -- ---- what is met
 
-abbrev pub fresh : World
-fresh = newWorld before words 2
+-- the history of some calls, New being accepted
+abbrev pub moved : accepted (newEffect before words 3) ≡ true → List Given → History
+moved new calls = record { session = before; words = words; created = 3; new = new; calls = calls }
 
 -- a driver's way from the pause to the token
 abbrev pub asks : List Ask
-asks = record { list = replicate 4 0; budget = 10 } ∷ []
+asks = replicate mostLists (record { list = replicate mostEntries 7; budget = 4 })
 
 abbrev pub sendings : List Sending
-sendings = record { list = left; buffer = replicate 2 0; stream = 0; hpa = 0; budgets = 1 ∷ 0 ∷ 1 ∷ [] } ∷ []
+sendings = record { list = left; buffer = replicate 2 0; stream = 1; hpa = 5; budgets = 1 ∷ 0 ∷ 1 ∷ [] } ∷ []
+
+-- or its two entries in lists of their own, on two streams by turns
+abbrev pub alone : ℕ → ℕ → Bool → ℕ → Exporting
+alone word stream resume budget =
+    record { stream = stream; resume = resume; info = upTo 0 0; budget = budget; list = word ∷ []; buffer = 0 ∷ [] }
+
+abbrev pub byTurns : List Exporting
+byTurns = alone 0x0010000000000018 0 false 0 ∷ alone 0x0010000000001008 1 false 5 ∷ alone 0x0010000000000018 0 true 5 ∷ []
 
 pub record Met : Type 0 where
-  pub new : accepted (newEffect before words 2) ≡ true
-  pub token : granted (run fresh toToken) ≡ true
-  pub log : run fresh toToken .log ≡ sent
-  pub order : Order (run fresh toToken .log) reordered
-  pub stopped : Paused (run fresh toPause)
+  pub new : accepted (newEffect before words 3) ≡ true
+  pub token : granted (atEnd (moved new toToken)) ≡ true
+  pub log : atEnd (moved new toToken) .log ≡ sent
+  pub order : Order (atEnd (moved new toToken) .log) reordered
+  pub stopped : Paused (atEnd (moved new toPause))
   pub fair : (a : Ask) → List·Memᴰ a asks → Fair a
-  pub ended : complete (checked (reset (run fresh toPause)) asks .world) ≡ true
-  pub plan : Plan (run fresh toPause) (checked (reset (run fresh toPause)) asks .lists) sendings
-  pub earned : granted (sendingAll (nextEpoch (checked (reset (run fresh toPause)) asks .world)) sendings) ≡ true
+  pub enough : pageCount (atEnd (moved new toPause) .table) ≤ length asks
+  pub full : (a : Ask) → List·Memᴰ a asks → Full (pageCount (atEnd (moved new toPause) .table)) a
+  pub eight : length asks ≡ mostLists
+  pub ended : complete (check (atEnd (moved new toPause)) asks .world) ≡ true
+  pub plan : Plan (atEnd (moved new toPause)) (check (atEnd (moved new toPause)) asks .lists) sendings
+  pub earned : granted (sendingAll (prepared (atEnd (moved new toPause)) asks) sendings) ≡ true
+  pub taken : (l : List ℕ) → List·Memᴰ l (check (atEnd (moved new toPause)) asks .lists) → (word : ℕ) → List·Memᴰ word l → List·Memᴰ word (tookAll (prepared (atEnd (moved new toPause)) asks) byTurns)
+  pub rests : busy (exportingAll (prepared (atEnd (moved new toPause)) asks) byTurns .session) ≡ false
+  pub anyhow : granted (exportingAll (prepared (atEnd (moved new toPause)) asks) byTurns) ≡ true

@@ -56,27 +56,24 @@ operationOf n = cond (eqb n operations.cancel) cancel (cond (eqb n operations.re
 abbrev pub succeeded : Entry → Bool
 succeeded e = eqb (e .status) statuses.success && not (eqb (e .operation) operations.nop)
 
-abbrev pub sentIf : Bool → Sent → List Sent
-sentIf true x = x ∷ []
-sentIf false x = []
-
 abbrev pub sentOf : ℕ → Entry → ℕ → Sent
 sentOf epoch e buffer =
     record { epoch = epoch; page = e .gpa; operation = operationOf (e .operation); pending = e .pending; contents = buffer }
 
 -- what a word and a buffer word that came back say: an entry that was sent, or none
 abbrev pub sentBy : ℕ → ℕ → ℕ → List Sent
-sentBy epoch word buffer = sentIf (succeeded (entryOf word)) (sentOf epoch (entryOf word) buffer)
+sentBy epoch word buffer = cond (succeeded (entryOf word)) (sentOf epoch (entryOf word) buffer ∷ []) []
 
 -- n entries of a list from `first` on
 abbrev pub sentFrom : ℕ → List ℕ → List ℕ → ℕ → ℕ → List Sent
 sentFrom epoch l b first zero = []
 sentFrom epoch l b first (suc n) = sentFrom epoch l b first n ++ sentBy epoch (getD l (first + n) 0) (getD b (first + n) 0)
 
--- the entry that an export has come to: done, behind LAST; interrupted, FIRST as it came back; a refusal took none
+-- the entry that an export has come to: done, behind LAST; interrupted, FIRST as it came back; refused, FIRST as it was given
 abbrev pub cameTo : ℕ → Returned → ℕ
 cameTo info r =
-    cond (eqb (r .code) codes.done) (infoOf info .last + 1) (cond (eqb (r .code) codes.interrupted) (infoOf (r .info) .first) 0)
+    cond (eqb (r .code) codes.done) (infoOf info .last + 1)
+    (cond (eqb (r .code) codes.interrupted) (infoOf (r .info) .first) (infoOf info .first))
 
 -- the entries that an export took, from FIRST as it was given
 abbrev pub sentIn : World → ℕ → Effect → List Sent
