@@ -15,7 +15,7 @@ use Rattle.refusals.proofs.Laws.{either}
 use Rattle.page.specs.Page.{pageOf, strange}
 use Rattle.page.specs.declared.records.PageWords.{PageWords}
 use Rattle.table.specs.Table.{pageCount, wordsAt, pageAt, putAt}
-use Rattle.table.proofs.Laws.{put-same, put-other, put-back, page-put}
+use Rattle.table.proofs.Laws.{put-length, put-same, put-other, put-back, page-put}
 use Rattle.session.specs.Session.{runOf}
 use Rattle.session.specs.declared.Session.{Session}
 use Rattle.entry.specs.declared.Ground.{Ground}
@@ -38,6 +38,10 @@ step-page g s r h =
 pub step-other : (g : Ground) (s : Standing) (i : ℕ) → (i ≡ placeOf s → ⊥) → wordsAt (stepped g s .table) i ≡ wordsAt (s .table) i
 unfolding stepped
 step-other g s i ne = put-other (s .table) (placeOf s) i (wordsAfter (wordsAt (s .table) (placeOf s)) (taking g s)) ne
+
+pub step-length : (g : Ground) (s : Standing) → length (stepped g s .table) ≡ length (s .table)
+unfolding stepped
+step-length g s = put-length (s .table) (placeOf s) (wordsAfter (wordsAt (s .table) (placeOf s)) (taking g s))
 
 -- an entry that names a strange page
 strange-kept : (g : Ground) (s : Standing) → strange (pageAt (s .table) (placeOf s)) ≡ true → wordsAt (stepped g s .table) (placeOf s) ≡ wordsAt (s .table) (placeOf s)

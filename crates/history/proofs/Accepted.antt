@@ -12,7 +12,6 @@ use Rattle.words.specs.Info.{infoOf}
 use Rattle.refusals.specs.Refusals.{_gives_}
 use Rattle.refusals.proofs.Laws.{either, passed, first-all, not-false}
 use Rattle.table.specs.Table.{legal, wordsAt}
-use Rattle.table.proofs.Laws.{put-length}
 use Rattle.session.specs.Session.{moving, streamPlaces, newSession, withPhase, withEpoch, runOf}
 use Rattle.session.specs.Formed.{fewestCreated, mostCreated, lastEntry, within, usable}
 use Rattle.session.specs.declared.Phase.the-variants.{Live, Blackout, Done}
@@ -30,11 +29,11 @@ use Rattle.scan.specs.declared.Scan.{Scan}
 use Rattle.scan.specs.declared.Scanned.{Scanned}
 use Rattle.scan.proofs.Outcomes.{dchecked}
 use Rattle.entry.specs.declared.Ground.{Ground}
-use Rattle.export.specs.Run.{Standing, standing, placeOf, taking, wordsAfter, stepped, exportRun}
+use Rattle.export.specs.Run.{Standing, standing, stepped, exportRun}
 use Rattle.export.specs.Export.{exportTests, exportCode, groundOf, begunBy, finishedBy}
 use Rattle.export.specs.declared.ExportAnswer.{ExportAnswer}
 use Rattle.export.proofs.Laws.{Bounds, run-bounds, export-ready}
-use Rattle.export.proofs.Moves.{exported}
+use Rattle.export.proofs.Moves.{step-length, exported}
 use Rattle.history.proofs.Sessions.{pause-formed, epoch-formed, check-formed, token-formed, run-formed, new-formed}
 
 -- ---- New
@@ -103,11 +102,11 @@ check-made s t l budget e =
 -- ---- an export
 
 pub export-length : (g : Ground) (last budget : ℕ) (x : Standing) → length (exportRun g last budget x .table) ≡ length (x .table)
-unfolding exportRun stepped
+unfolding exportRun
 export-length g last zero x = refl
 export-length g last (suc budget) x =
     either (λ (y : Standing). length (y .table) ≡ length (x .table)) (leb (x .at .next) last)
-    (λ q. export-length g last budget (stepped g x) ∙ put-length (x .table) (placeOf x) (wordsAfter (wordsAt (x .table) (placeOf x)) (taking g x)))
+    (λ q. export-length g last budget (stepped g x) ∙ step-length g x)
     (λ q. refl)
 
 -- the stream is at rest at the end of the list, and else at an entry up to LAST

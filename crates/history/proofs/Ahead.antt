@@ -15,20 +15,18 @@ use Rattle.words.specs.Record.{room}
 use Rattle.refusals.proofs.Laws.{either}
 use Rattle.page.specs.Page.{pageOf}
 use Rattle.page.specs.declared.Page.{Page}
-use Rattle.table.specs.Table.{pageCount, wordsAt, pageAt}
-use Rattle.table.proofs.Laws.{put-length}
+use Rattle.table.specs.Table.{pageCount, pageAt}
 use Rattle.session.specs.Session.{moving, runOf}
-use Rattle.session.specs.declared.Phase.the-variants.{Idle, Blackout}
+use Rattle.session.specs.declared.Phase.the-variants.{Blackout}
 use Rattle.session.specs.declared.Session.{Session}
 use Rattle.session.proofs.Laws.{gate-open}
-use Rattle.session.proofs.FormedLaws.{formed-means}
+use Rattle.session.proofs.FormedLaws.{formed-means, epoch-fits}
 use Rattle.migration.specs.Grant.{Ready}
 use Rattle.entry.specs.declared.Ground.{Ground}
-use Rattle.export.specs.Run.{Standing, standing, wordOf, placeOf, taking, wordsAfter, counted, stepped, exportRun}
+use Rattle.export.specs.Run.{Standing, standing, wordOf, placeOf, taking, counted, stepped, exportRun}
 use Rattle.export.specs.Export.{exportTests, exportCode, groundOf, begunBy}
 use Rattle.export.proofs.Laws.{export-ready}
-use Rattle.export.proofs.Moves.{step-page, step-other, exported}
-use Rattle.history.proofs.Sessions.{not-idle}
+use Rattle.export.proofs.Moves.{step-page, step-other, step-length, exported}
 use Rattle.history.proofs.Exports.{begins}
 use Rattle.history.proofs.Waiting.{Names, Due, Listed}
 use Rattle.history.proofs.Turns.{ready-stays, due-either, due-taken}
@@ -138,7 +136,7 @@ module _ (g : Ground) (paused : g .phase ≡ Blackout) (fits : g .epoch < room) 
   unfolding stepped counted
   along-step s a =
       record {
-        table = put-length (s .table) (placeOf s) (wordsAfter (wordsAt (s .table) (placeOf s)) (taking g s)) ∙ a .table;
+        table = step-length g s ∙ a .table;
         list = length-set (s .list) (s .at .next) (taking g s .word) ∙ a .list;
         buffer = length-set (s .buffer) (s .at .next) (taking g s .buffer) ∙ a .buffer;
         waits = λ i h. waits-step s a i h (a .waits i h);
@@ -158,10 +156,9 @@ unfolding groundOf exportCode
 call-along s t l b stream resume info budget Else to paused e waits =
     let p = gate-open s (length t) moving (exportTests s (length l) (length b) stream resume (infoOf info)) refl e in
     let f = formed-means s (length t) (p .formed) in
-    let moves : s .phase ≡ Idle → ⊥ = not-idle moving (s .phase) refl (p .comes) in
     let ready = export-ready s (length t) (length l) (length b) stream resume (infoOf info) e in
     let at : begunBy (runOf s stream) .next ≡ infoOf info .first = begins s (length t) (length l) (length b) stream resume (infoOf info) e in
-    along-run (groundOf s) paused (omega (arith, f .begun moves .high)) Else (length t) (length l) to (sym (f .ours)) (infoOf info .last) budget
+    along-run (groundOf s) paused (epoch-fits s (length t) (p .formed) (p .comes)) Else (length t) (length l) to (sym (f .ours)) (infoOf info .last) budget
     (standing (begunBy (runOf s stream)) t l b)
     (record { table = refl; list = refl; buffer = ready .same; waits = rw at waits })
 

@@ -30,7 +30,7 @@ use Rattle.history.proofs.Formed.{formed-after, streams-after}
 use Rattle.history.proofs.Sound.{Sound, sound-after, sound-ok}
 use Rattle.history.proofs.Waiting.{Left}
 use Rattle.history.proofs.Looks.{Calm, paused-calm}
-use Rattle.history.proofs.Dchecks.{Going, GetsOn, dcheck-going, dcheck-gets-on}
+use Rattle.history.proofs.Dchecks.{Between, GetsOn, dcheck-between, dcheck-gets-on}
 
 -- ---- few lists
 
@@ -44,19 +44,19 @@ with-few (x ∷ l) ls = omega arith
 record Mid (w : World) (n c : ℕ) (ls : List (List ℕ)) : Type 0 where
   sound : Sound w
   formed : formed (w .session) (length (w .table)) ≡ true
-  going : Going (w .session) (w .table) n c ls
+  between : Between (w .session) (w .table) n c ls
 
 mid-calm : (w : World) (n c : ℕ) (ls : List (List ℕ)) → Mid w n c ls → (k : ℕ) → k < pageCount (w .table) → Calm (pageAt (w .table) k)
 mid-calm w n c ls m k l =
     let x = sound-ok w (m .sound) k l in
-    paused-calm (clockOf (w .session)) (pageAt (w .table) k) (x .0) (m .going .phase) (x .1)
+    paused-calm (clockOf (w .session)) (pageAt (w .table) k) (x .0) (m .between .phase) (x .1)
 
 asked-mid : (w : World) (n c : ℕ) (ls : List (List ℕ)) (a : Ask) → Mid w n c ls → Mid (after w (asking a)) n c (ls ++ withList (entriesOf (effectIn w (asking a))) [])
 asked-mid w n c ls a m =
     record {
       sound = sound-after w (asking a) (m .sound);
       formed = formed-after w (asking a) (m .formed);
-      going = dcheck-going (w .session) (w .table) (a .list) (a .budget) (m .formed) (mid-calm w n c ls m) n c ls (m .going);
+      between = dcheck-between (w .session) (w .table) (a .list) (a .budget) (m .formed) (mid-calm w n c ls m) n c ls (m .between);
     }
 
 with-append : (l : List ℕ) (ls : List (List ℕ)) → withList l ls ≡ withList l [] ++ ls
@@ -85,7 +85,7 @@ record Enough (d n : ℕ) (a : Ask) : Type 0 where
 to-end : (d : ℕ) (asks : List Ask) (w : World) (n c : ℕ) (ls : List (List ℕ)) → Mid w n c ls → complete w ≡ false → w .session .check .place < n → ((a : Ask) → List·Memᴰ a asks → Enough d n a) → n ≤ w .session .check .place + length asks * d → complete (checked w asks .world) ≡ true
 to-end d [] w n c ls m unfinished inside enough far = absurd (omega (arith, inside, far, zero-mul d))
 to-end d (a ∷ l) w n c ls m unfinished inside enough far =
-    go (dcheck-gets-on (w .session) (w .table) (a .list) (a .budget) (m .formed) (mid-calm w n c ls m) d n c ls (m .going) unfinished (first .most) (first .room) (first .spent))
+    go (dcheck-gets-on (w .session) (w .table) (a .list) (a .budget) (m .formed) (mid-calm w n c ls m) d n c ls (m .between) unfinished (first .most) (first .room) (first .spent))
     (to-end d l v n c (ls ++ withList (entriesOf (effectIn w (asking a))) []) (asked-mid w n c ls a m))
   where
     first : Enough d n a
@@ -103,7 +103,7 @@ few-lists : (d : ℕ) (asks : List Ask) (k : ℕ) (w : World) (n c : ℕ) (ls : 
 few-lists d [] k w n c ls m unfinished inside enough far = omega arith
 few-lists d (a ∷ l) zero w n c ls m unfinished inside enough far = absurd (omega (arith, inside, far, zero-mul d))
 few-lists d (a ∷ l) (suc k) w n c ls m unfinished inside enough far =
-    go (dcheck-gets-on (w .session) (w .table) (a .list) (a .budget) (m .formed) (mid-calm w n c ls m) d n c ls (m .going) unfinished (first .most) (first .room) (first .spent))
+    go (dcheck-gets-on (w .session) (w .table) (a .list) (a .budget) (m .formed) (mid-calm w n c ls m) d n c ls (m .between) unfinished (first .most) (first .room) (first .spent))
     (few-lists d l k v n c (ls ++ withList (entriesOf (effectIn w (asking a))) []) (asked-mid w n c ls a m))
   where
     first : Enough d n a
@@ -132,7 +132,7 @@ reset-mid w sound f p =
     record {
       sound = sound-after w (given Reset [] []) sound;
       formed = formed-after w (given Reset [] []) f;
-      going =
+      between =
           rw (reset-makes (w .session) (w .table) f (p .phase))
           (record {
             pages = refl;
@@ -190,7 +190,7 @@ epoch-makes s t f p b l =
 epoch-left : (w : World) (n c : ℕ) (ls : List (List ℕ)) → Mid w n c ls → length (w .session .streams) ≡ streamPlaces → complete w ≡ true → Left (nextEpoch w) c ls
 unfolding busy
 epoch-left w n c ls m streams done =
-    let g = m .going in
+    let g = m .between in
     let made : newEpochOut (w .session) (w .table) ≡ outcome 0 (withEpoch (w .session) (w .session .epoch + 1)) (w .table) = epoch-makes (w .session) (w .table) (m .formed) (g .phase) (g .rest) (g .epoch) in
     let r = formed-means (w .session) (length (w .table)) (m .formed) in
     record {

@@ -199,16 +199,19 @@ taken-content word w g r = by (strange (pageOf w)) refl
 
 -- ---- the pages of a table
 
--- New: nothing is the guest's
-pub new-content : (n i : ℕ) → content (pageAt (replicate n 0) i) ≡ absent
+-- New: every page is free, and nothing is the guest's
+pub zero-page : (n i : ℕ) → pageAt (replicate n 0) i ≡ record { state = Free; dirty = false; cached = false; stamp = 0; epoch = 0; mark = 0 }
 unfolding wordsAt pageOf recordOf plain stateOf
-new-content n i =
-    either (λ (w : PageWords). content (pageOf w) ≡ absent) (ltb i (pageCount (replicate n 0)))
+zero-page n i =
+    either (λ (w : PageWords). pageOf w ≡ record { state = Free; dirty = false; cached = false; stamp = 0; epoch = 0; mark = 0 }) (ltb i (pageCount (replicate n 0)))
     (λ q.
     let inside : i < pageCount (replicate n 0) = ltb-true _ _ q in
     let whole : length (replicate n 0) ≡ n = length-replicate {A = ℕ} n 0 in
-    rw (getD-replicate {A = ℕ} n (2 * i) 0 0 (omega arith)))
+    rw (getD-replicate {A = ℕ} n (2 * i) 0 0 (omega arith), getD-replicate {A = ℕ} n (2 * i + 1) 0 0 (omega arith)))
     (λ q. refl)
+
+pub new-content : (n i : ℕ) → content (pageAt (replicate n 0) i) ≡ absent
+new-content n i = ap content (zero-page n i)
 
 pub swept-content : (k : Sweep) (t : List ℕ) (i : ℕ) → content (pageAt (sweepOf (sweptWords (sweptBy k)) (pageCount t) t) i) ≡ content (pageAt t i)
 swept-content k t i = go (ltb i (pageCount t)) refl

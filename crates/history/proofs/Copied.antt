@@ -1,10 +1,10 @@
 -- From a pause to the grant the guest's memory is the copy that the pause took: its own calls are refused in Blackout and in Done, and only a pause and the
 -- token lead there.
 use mathlib.Core.Path.{_≡_, refl, sym, subst}
-use mathlib.Core.Bool.{Bool, true, false, cond, false≢true}
+use mathlib.Core.Bool.{Bool, true, cond, false≢true}
 use mathlib.Core.List.{List, [], _∷_}
 use Prim.Native.Nat.{ℕ, _+_}
-use lib.Dec.{eqb, ltb}
+use lib.Dec.{eqb}
 use lib.ListN.{length, replicate}
 use borrow.Author.Tests.{eqb-true}
 use Rattle.words.specs.Info.{infoOf}
@@ -13,9 +13,8 @@ use Rattle.page.specs.Sweeps.{uncached, started, aborted, sweptWords}
 use Rattle.page.specs.declared.moves.Move.{Move}
 use Rattle.page.specs.declared.moves.Move.the-variants as move
 use Rattle.table.specs.Table.{pageCount, wordsAt, putAt, sweepOf}
-use Rattle.session.specs.Session.{streamPlaces, among, guest, newSession, withTlb, withPhase, withEpoch, withCheck, withRun, unchecked, begun}
+use Rattle.session.specs.Session.{among, guest, newSession, withTlb, withPhase, withEpoch, withCheck, unchecked, begun}
 use Rattle.session.specs.Outcome.{Outcome, answered}
-use Rattle.session.specs.declared.streams.Run.{Run}
 use Rattle.session.specs.declared.Phase.{Phase}
 use Rattle.session.specs.declared.Phase.the-variants.{Idle, Live, Blackout, Done}
 use Rattle.session.specs.declared.Session.{Session}
@@ -24,12 +23,9 @@ use Rattle.memory.specs.Memory.{newCode, newOut, pageTurn, onPage, writeOut, ad
 use Rattle.migration.proofs.Grant.{paused-is}
 use Rattle.migration.specs.Migration.{startCode, startOut, pauseCode, pauseOut, abortCode, abortOut, newEpochCode, newEpochOut, resetCode, resetOut}
 use Rattle.migration.specs.Token.{tokenTests, tokenCode, tokenOut}
-use Rattle.scan.specs.Scan.{answerOf, checkedBy, ScanOutcome, dscanOut, dcheckOut}
-use Rattle.scan.specs.declared.Scanned.{Scanned}
-use Rattle.scan.specs.declared.ScanAnswer.{ScanAnswer}
-use Rattle.scan.proofs.Outcomes.{dscanned, dscan-either, dchecked, dcheck-either}
-use Rattle.export.specs.Export.{finishedBy, ExportOutcome, exportOut}
-use Rattle.export.specs.declared.ExportAnswer.{ExportAnswer}
+use Rattle.scan.specs.Scan.{checkedBy, ScanOutcome, dscanOut, dcheckOut}
+use Rattle.scan.proofs.Outcomes.{answer-session, dscanned, dscan-either, dchecked, dcheck-either}
+use Rattle.export.specs.Export.{ExportOutcome, exportOut}
 use Rattle.export.proofs.Moves.{exported, export-either}
 use Rattle.calls.specs.Calls.{Effect}
 use Rattle.calls.specs.declared.Call.{Call}
@@ -37,6 +33,7 @@ use Rattle.calls.specs.declared.Call.the-variants.{New, Write, Add, Accept, Blo
 use Rattle.bundle.specs.Bundle.{Holding, nothing}
 use Rattle.history.specs.History.{Given, given, World, effectIn, accepted, rememberedBy, copiedBy, after, run}
 use Rattle.history.proofs.Contents.{call-done}
+use Rattle.history.proofs.Exports.{finished-streams}
 
 -- the guest does not run
 abbrev pub Stopped : Phase → Type 0
@@ -87,33 +84,23 @@ token-copied s t m c h =
     either (λ (s' : Session). Copied (s' .phase) m c) (eqb (tokenCode s t) 0) (λ q x. h (token-paused s t q)) (λ q. h)
 
 -- scans and exports leave the phase
-scan-phase : (g : Scanned) (s : Session) → answerOf g s .session .phase ≡ s .phase
-unfolding answerOf
-scan-phase g s = either (λ (a : ScanAnswer). a .session .phase ≡ s .phase) (eqb (g .put) 0) (λ q. refl) (λ q. refl)
-
 dscan-phase : (s : Session) (t l : List ℕ) (first count budget : ℕ) → dscanOut s t l first count budget .answer .session .phase ≡ s .phase
 dscan-phase s t l first count budget =
     dscan-either s t l first count budget (λ (o : ScanOutcome). o .answer .session .phase ≡ s .phase)
-    (λ z. scan-phase (dscanned s t l first count budget .scanned) s)
+    (λ z. rw (answer-session (dscanned s t l first count budget .scanned) s))
     refl
 
 dcheck-phase : (s : Session) (t l : List ℕ) (budget : ℕ) → dcheckOut s t l budget .answer .session .phase ≡ s .phase
 unfolding checkedBy
 dcheck-phase s t l budget =
     dcheck-either s t l budget (λ (o : ScanOutcome). o .answer .session .phase ≡ s .phase)
-    (λ z. scan-phase (dchecked s t l budget .scanned) (checkedBy s (dchecked s t l budget .scanned)))
+    (λ z. rw (answer-session (dchecked s t l budget .scanned) (checkedBy s (dchecked s t l budget .scanned))))
     refl
 
-run-phase : (s : Session) (i : ℕ) (r : Run) → withRun s i r .phase ≡ s .phase
-unfolding withRun
-run-phase s i r = either (λ (x : Session). x .phase ≡ s .phase) (ltb i streamPlaces) (λ q. refl) (λ q. refl)
-
 export-phase : (s : Session) (t l b : List ℕ) (stream : ℕ) (resume : Bool) (info budget : ℕ) → exportOut s t l b stream resume info budget .answer .session .phase ≡ s .phase
-unfolding finishedBy
 export-phase s t l b stream resume info budget =
-    let at = exported s t l b stream info budget .at in
     export-either (λ (o : ExportOutcome). o .answer .session .phase ≡ s .phase) s t l b stream resume info budget
-    (either (λ (a : ExportAnswer). a .session .phase ≡ s .phase) (ltb (infoOf info .last) (at .next)) (λ q. run-phase s stream _) (λ q. run-phase s stream _))
+    (finished-streams (λ (x : Session). x .phase ≡ s .phase) s stream (infoOf info) (exported s t l b stream info budget .at) (λ streams. refl))
     refl
 
 module _ (w : World) (l b : List ℕ) (h : Copied (w .session .phase) (w .memory) (w .copy)) where

@@ -18,25 +18,24 @@ use Rattle.session.specs.Formed.{formed, gateTests, gated, within, busy, mostEn
 use Rattle.session.specs.declared.Phase.the-variants.{Blackout}
 use Rattle.session.specs.declared.Session.{Session}
 use Rattle.session.proofs.Laws.{gate-open, open-gate}
-use Rattle.session.proofs.FormedLaws.{formed-means}
+use Rattle.session.proofs.FormedLaws.{formed-means, tlb-fits}
 use Rattle.migration.specs.Grant.{Ready}
 use Rattle.scan.specs.Scan.{ScanOut, answerOf, checkedBy, ScanOutcome, ranScan, refusedScan, dcheckTests, dcheckCode, dcheckOf, dcheckOut}
-use Rattle.scan.specs.declared.Scanned.{Scanned}
 use Rattle.scan.specs.declared.ScanAnswer.{ScanAnswer}
 use Rattle.scan.proofs.Laws.{dcheck-fits}
-use Rattle.scan.proofs.Outcomes.{dchecked, dcheck-either}
+use Rattle.scan.proofs.Outcomes.{answer-session, answer-code, dchecked, dcheck-either}
 use Rattle.calls.specs.Calls.{scanEffect}
 use Rattle.history.specs.Earning.{entriesOf, withList}
 use Rattle.history.proofs.Waiting.{Due, Listed, Short}
 use Rattle.history.proofs.Looks.{Calm}
-use Rattle.history.proofs.Passing.{Named, Stopped, Swept, range-swept}
+use Rattle.history.proofs.Passing.{Named, Ending, Swept, range-swept}
 
 -- page i is ready, or due and named in one of the lists
-abbrev pub Waits : List ℕ → List (List ℕ) → ℕ → Type 0
-Waits t ls i = Ready (pageAt t i) ⊎ (Due (pageAt t i) × Listed ls i)
+abbrev pub ReadyOrListed : List ℕ → List (List ℕ) → ℕ → Type 0
+ReadyOrListed t ls i = Ready (pageAt t i) ⊎ (Due (pageAt t i) × Listed ls i)
 
 -- between two DCHECKs of a guest of n pages, created with c: what is asked of session, table and the lists so far
-pub record Going (s : Session) (t : List ℕ) (n c : ℕ) (ls : List (List ℕ)) : Type 0 where
+pub record Between (s : Session) (t : List ℕ) (n c : ℕ) (ls : List (List ℕ)) : Type 0 where
   pub pages : s .pages ≡ n
   pub phase : s .phase ≡ Blackout
   pub rest : busy s ≡ false
@@ -44,7 +43,7 @@ pub record Going (s : Session) (t : List ℕ) (n c : ℕ) (ls : List (List ℕ))
   pub created : s .created ≡ c
   pub unfailed : s .check .failed ≡ false
   pub lists : (l : List ℕ) → List·Memᴰ l ls → Short l
-  pub passed : (i : ℕ) → i < s .check .place → Waits t ls i
+  pub passed : (i : ℕ) → i < s .check .place → ReadyOrListed t ls i
 
 -- ---- the entries
 
@@ -62,15 +61,6 @@ with-short (w ∷ l) h m k =
     (λ (e : m ≡ w ∷ l). subst (λ (x : List ℕ). Short x) (sym e) (record { some = omega arith; most = h }))
     (λ z. absurd (List·Memᴰ·not-nil z))
     (List·Memᴰ·cases-cons k)
-
--- an answer has the session and the code
-answer-session : (g : Scanned) (s : Session) → answerOf g s .session ≡ s
-unfolding answerOf
-answer-session g s = either (λ (a : ScanAnswer). a .session ≡ s) (eqb (g .put) 0) (λ e. refl) (λ e. refl)
-
-answer-code : (g : Scanned) (s : Session) → answerOf g s .code ≡ g .code
-unfolding answerOf
-answer-code g s = either (λ (a : ScanAnswer). a .code ≡ g .code) (eqb (g .put) 0) (λ e. refl) (λ e. refl)
 
 -- a DCHECK that ran gives the words that it wrote
 ran-entries : (s : Session) (o : ScanOut) → within codes.interrupted codes.checkComplete (o .scanned .code) ≡ true → entriesOf (scanEffect (ranScan s o) []) ≡ take (o .scanned .put) (o .list)
@@ -93,10 +83,10 @@ refused-entries s t l =
     (first-all (λ (n : ℕ). not (within codes.interrupted codes.checkComplete n)) (gateTests s (length t) (Blackout ∷ []) (dcheckTests s (length l))) refl refl))
 
 -- the codes of a DCHECK that ran
-stopped-codes : (budget space code i n : ℕ) → Stopped budget space code i n → (within codes.interrupted codes.checkComplete code ≡ true) × (eqb code codes.memScanFailedBlockedRange ≡ false)
-stopped-codes budget space code i n (inl x) = rw (x .code) (refl, refl)
-stopped-codes budget space code i n (inr (inl x)) = rw (x .code) (refl, refl)
-stopped-codes budget space code i n (inr (inr x)) = rw (x .code) (refl, refl)
+ending-codes : (budget space code i n : ℕ) → Ending budget space code i n → (within codes.interrupted codes.checkComplete code ≡ true) × (eqb code codes.memScanFailedBlockedRange ≡ false)
+ending-codes budget space code i n (inl x) = rw (x .code) (refl, refl)
+ending-codes budget space code i n (inr (inl x)) = rw (x .code) (refl, refl)
+ending-codes budget space code i n (inr (inr x)) = rw (x .code) (refl, refl)
 
 -- a DCHECK from a place on comes to the end, or at least d pages further and not to the end
 pub record Further (d place n : ℕ) (a : ScanAnswer) : Type 0 where
@@ -120,16 +110,16 @@ module _ (s : Session) (t l : List ℕ) (budget : ℕ) (f : formed s (length t) 
   swept : dcheckCode s (length t) (length l) ≡ 0 → Swept (dcheckOf s budget) count t l ran
   swept z =
       let m = formed-means s (length t) f in
-      range-swept count (dcheckOf s budget) t l (dcheck-fits s (length t) (length l) z .1 .0) refl (omega (arith, m .tlb .high)) (omega (arith, m .place, m .pages .high)) calm
+      range-swept count (dcheckOf s budget) t l (dcheck-fits s (length t) (length l) z .1 .0) refl (tlb-fits s (length t) f) (omega (arith, m .place, m .pages .high)) calm
 
   -- what a DCHECK passed is added to what stood below the place
-  ran-waits : (n c : ℕ) (ls : List (List ℕ)) → Going s t n c ls → Swept (dcheckOf s budget) count t l ran → (i : ℕ) → i < ran .scanned .next → Waits (ran .part) (ls ++ withList (take (ran .scanned .put) (ran .list)) []) i
-  ran-waits n c ls g w i h = go (decLt i (s .check .place))
+  ran-passed : (n c : ℕ) (ls : List (List ℕ)) → Between s t n c ls → Swept (dcheckOf s budget) count t l ran → (i : ℕ) → i < ran .scanned .next → ReadyOrListed (ran .part) (ls ++ withList (take (ran .scanned .put) (ran .list)) []) i
+  ran-passed n c ls g w i h = go (decLt i (s .check .place))
     where
       new : List (List ℕ)
       new = withList (take (ran .scanned .put) (ran .list)) []
 
-      go : Dec (i < s .check .place) → Waits (ran .part) (ls ++ new) i
+      go : Dec (i < s .check .place) → ReadyOrListed (ran .part) (ls ++ new) i
       go (yes b) = rw (w .before i b) (⊎-elim (λ x. inl x) (λ x. inr (x .0, listed-more ls new i (x .1))) (g .passed i b))
       go (no b) =
           ⊎-elim (λ x. inl x)
@@ -146,13 +136,13 @@ module _ (s : Session) (t l : List ℕ) (budget : ℕ) (f : formed s (length t) 
       let short : length (take (ran .scanned .put) (ran .list)) ≤ mostEntries = rw (length-take (ran .scanned .put) (ran .list)) (omega (arith, room, w .long)) in
       ⊎-elim (λ x. old m x) (λ x. with-short (take (ran .scanned .put) (ran .list)) short m x) (List·Memᴰ·append-cases ls k)
 
-  pub dcheck-going : (n c : ℕ) (ls : List (List ℕ)) → Going s t n c ls → Going (dcheckOut s t l budget .answer .session) (dcheckOut s t l budget .table) n c (ls ++ withList (entriesOf (scanEffect (dcheckOut s t l budget) [])) [])
+  pub dcheck-between : (n c : ℕ) (ls : List (List ℕ)) → Between s t n c ls → Between (dcheckOut s t l budget .answer .session) (dcheckOut s t l budget .table) n c (ls ++ withList (entriesOf (scanEffect (dcheckOut s t l budget) [])) [])
   unfolding checkedBy busy
-  dcheck-going n c ls g =
-      dcheck-either s t l budget (λ (o : ScanOutcome). Going (o .answer .session) (o .table) n c (ls ++ withList (entriesOf (scanEffect o [])) []))
+  dcheck-between n c ls g =
+      dcheck-either s t l budget (λ (o : ScanOutcome). Between (o .answer .session) (o .table) n c (ls ++ withList (entriesOf (scanEffect o [])) []))
       (λ z.
       let w = swept z in
-      let known = stopped-codes budget (length l) (ran .scanned .code) (w .at) count (w .how) in
+      let known = ending-codes budget (length l) (ran .scanned .code) (w .at) count (w .how) in
       rw (answer-session (ran .scanned) (checkedBy s (ran .scanned)), ran-entries (checkedBy s (ran .scanned)) ran (known .0))
       (record {
         pages = g .pages;
@@ -162,7 +152,7 @@ module _ (s : Session) (t l : List ℕ) (budget : ℕ) (f : formed s (length t) 
         created = g .created;
         unfailed = known .1;
         lists = ran-lists ls (g .lists) z;
-        passed = ran-waits n c ls g w;
+        passed = ran-passed n c ls g w;
       }))
       (rw (refused-entries s t l, append-nil ls) g)
 
@@ -171,7 +161,7 @@ module _ (s : Session) (t l : List ℕ) (budget : ℕ) (f : formed s (length t) 
   dcheck-runs z = rw z
 
   -- where it was not complete, and the list and the budget are enough for d pages
-  pub dcheck-gets-on : (d n c : ℕ) (ls : List (List ℕ)) → Going s t n c ls → s .check .complete ≡ false → length l ≤ mostEntries → d ≤ length l → ((i : ℕ) → budget ≤ i → i < n → d ≤ i) → GetsOn d (s .check .place) n (dcheckOut s t l budget .answer)
+  pub dcheck-gets-on : (d n c : ℕ) (ls : List (List ℕ)) → Between s t n c ls → s .check .complete ≡ false → length l ≤ mostEntries → d ≤ length l → ((i : ℕ) → budget ≤ i → i < n → d ≤ i) → GetsOn d (s .check .place) n (dcheckOut s t l budget .answer)
   unfolding checkedBy dcheckCode
   dcheck-gets-on d n c ls g unfinished most room spent =
       let z : dcheckCode s (length t) (length l) ≡ 0
@@ -194,7 +184,7 @@ module _ (s : Session) (t l : List ℕ) (budget : ℕ) (f : formed s (length t) 
             inside = rw (answer-session (ran .scanned) (checkedBy s (ran .scanned))) (omega (arith, w .next, inside, g .pages, place));
           }
 
-      go : (w : Swept (dcheckOf s budget) count t l ran) → Stopped budget (length l) (ran .scanned .code) (w .at) count → GetsOn d (s .check .place) n made
+      go : (w : Swept (dcheckOf s budget) count t l ran) → Ending budget (length l) (ran .scanned .code) (w .at) count → GetsOn d (s .check .place) n made
       go w (inl x) = inl (rw (answer-code (ran .scanned) (checkedBy s (ran .scanned)), x .code), rw (answer-session (ran .scanned) (checkedBy s (ran .scanned)), x .code))
       go w (inr (inl x)) = inr (further w (rw (x .code)) (spent (w .at) (x .spent) (omega (arith, x .place, g .pages))) (x .place))
       go w (inr (inr x)) = inr (further w (rw (x .code)) (omega (arith, x .full, room)) (x .place))

@@ -23,20 +23,20 @@ use Rattle.session.specs.declared.streams.Run.{Run}
 use Rattle.session.specs.declared.streams.Stream.{Stream}
 use Rattle.session.specs.declared.streams.Run.the-variants.{AtRest, Interrupted}
 use Rattle.session.proofs.Laws.{gate-open}
-use Rattle.session.proofs.FormedLaws.{formed-means}
+use Rattle.session.proofs.FormedLaws.{formed-means, epoch-fits}
 use Rattle.entry.specs.declared.Ground.{Ground}
 use Rattle.export.specs.Run.{Standing, standing, taking, counted, stepped, exportRun}
 use Rattle.export.specs.Export.{noResumption, noNewCall, notFrom0, exportTests, exportCode, groundOf, begunBy, nextFirst, finishedBy, ExportOutcome, ranExport, exportOut}
 use Rattle.export.specs.declared.runs.Progress.{Progress}
 use Rattle.export.specs.declared.ExportAnswer.{ExportAnswer}
 use Rattle.export.proofs.Laws.{export-ready, run-bounds}
-use Rattle.export.proofs.Moves.{exported}
+use Rattle.export.proofs.Moves.{step-length, exported}
 use Rattle.calls.specs.Calls.{exportNumbers, exportEffect}
 use Rattle.bundle.specs.Bundle.{Sent}
 use Rattle.history.specs.History.{World, sentBy, sentFrom, cameTo, sentIn}
 use Rattle.history.proofs.Pages.{clockOn}
 use Rattle.history.proofs.Sessions.{not-idle}
-use Rattle.history.proofs.Logs.{Orderly, Fine, adds, taken-length, one-more}
+use Rattle.history.proofs.Logs.{Orderly, Fine, adds, one-more}
 use Rattle.history.proofs.Stands.{Stands, since-begun}
 
 -- ---- words that are not touched, and the one that is
@@ -80,7 +80,7 @@ module _ (g : Ground) (moves : among moving (g .phase) ≡ true) (small : g .epo
         from = omega (arith, a .from);
         long = rw length-set (a .long);
         same = length-set (s .buffer) _ _ ∙ a .same ∙ sym (length-set (s .list) _ _);
-        size = rw (taken-length g s) (a .size);
+        size = rw (step-length g s) (a .size);
       }
 
   along-run : (budget : ℕ) (s : Standing) → Along g log first last s → Along g log first last (exportRun g last budget s)
@@ -121,7 +121,8 @@ came s stream info at h short =
     (λ q. omega (arith, h, ltb-true (infoOf info .last) (at .next) q))
     (λ q.
     let low : at .next < 2 ^ 9 = omega (arith, short, ltb-false (infoOf info .last) (at .next) q) in
-    rw q (ap (λ (x : Info). x .first) (info-back info (at .next) low)))
+    let here : nextFirst (infoOf info .last) (at .next) ≡ at .next = rw q in
+    ap (λ (n : ℕ). infoOf (infoWord (withFirst (infoOf info) n)) .first) here ∙ ap (λ (x : Info). x .first) (info-back info (at .next) low))
 
 pub ran-came : (s : Session) (t l b : List ℕ) (stream : ℕ) (resume : Bool) (info budget : ℕ) → exportCode s (length t) (length l) (length b) stream resume (infoOf info) ≡ 0 → cameTo info (exportNumbers (finishedBy s stream (infoOf info) (exported s t l b stream info budget .at))) ≡ exported s t l b stream info budget .at .next
 ran-came s t l b stream resume info budget e =
@@ -174,8 +175,7 @@ module _ (w : World) (l b : List ℕ) (stream : ℕ) (resume : Bool) (info budge
       let ready = export-ready s (length t) (length l) (length b) stream resume (infoOf info) e in
       let at : begunBy (runOf s stream) .next ≡ infoOf info .first = begins s (length t) (length l) (length b) stream resume (infoOf info) e in
       let none : infoOf info .first - infoOf info .first ≡ 0 = omega arith in
-      let small : s .epoch < room = omega (arith, y .begun moves .high) in
-      along-run (groundOf s) (p .comes) small (w .log) (infoOf info .first) (infoOf info .last) budget (standing (begunBy (runOf s stream)) t l b)
+      along-run (groundOf s) (p .comes) (epoch-fits s (length t) (p .formed) (p .comes)) (w .log) (infoOf info .first) (infoOf info .last) budget (standing (begunBy (runOf s stream)) t l b)
       (record {
         orderly = rw (at, none, append-nil) o;
         fine = rw (at, none, append-nil) (rw (since-begun (s .phase) (w .log) moves) at f);

@@ -29,11 +29,9 @@ use Rattle.memory.specs.Memory.{newCode, newOut, pageTurn, onPage, writeOut, ad
 use Rattle.memory.proofs.Laws.{track-room}
 use Rattle.migration.specs.Migration.{startCode, startOut, pauseCode, pauseOut, abortCode, abortOut, newEpochCode, newEpochOut, resetCode, resetOut}
 use Rattle.migration.specs.Token.{tokenCode, tokenOut}
-use Rattle.scan.specs.Scan.{rangeRun, answerOf, checkedBy, ScanOutcome, dscanOf, dcheckOf}
-use Rattle.scan.specs.declared.Scanned.{Scanned}
-use Rattle.scan.specs.declared.ScanAnswer.{ScanAnswer}
+use Rattle.scan.specs.Scan.{rangeRun, checkedBy, ScanOutcome, dscanOf, dcheckOf}
 use Rattle.scan.proofs.RangeLaws.{range-length}
-use Rattle.scan.proofs.Outcomes.{dscan-either, dchecked, dcheck-either}
+use Rattle.scan.proofs.Outcomes.{answer-session, dscan-either, dchecked, dcheck-either}
 use Rattle.export.specs.Run.{standing}
 use Rattle.export.specs.Export.{exportCode, groundOf, begunBy, finishedBy, ExportOutcome, exportOut}
 use Rattle.export.specs.declared.runs.Progress.{Progress}
@@ -75,11 +73,6 @@ module _ (s : Session) (t : List ℕ) (f : formed s (length t) ≡ true) where
       (λ e. means-formed (withPhase s phase.Done) (length t) (token-made s t (eqb-true _ _ e)))
       (λ e. f)
 
-  -- an answer's session is the one that it is given
-  scanned-formed : (g : Scanned) (s' : Session) (len : ℕ) → formed s' len ≡ true → formed (answerOf g s' .session) len ≡ true
-  unfolding answerOf
-  scanned-formed g s' len h = either (λ (a : ScanAnswer). formed (a .session) len ≡ true) (eqb (g .put) 0) (λ e. h) (λ e. h)
-
   call-formed : (l b : List ℕ) (c : Call) → formed (effectOf c s t l b .returned .session) (length (effectOf c s t l b .table)) ≡ true
   unfolding newOut writeOut addOut acceptOut blockOut unblockOut removeOut trackOut startOut pauseOut abortOut newEpochOut resetOut checkedBy exportOut
   call-formed l b (New created) =
@@ -99,13 +92,13 @@ module _ (s : Session) (t : List ℕ) (f : formed s (length t) ≡ true) where
   call-formed l b StartToken = granted-formed
   call-formed l b (Dscan first count budget) =
       dscan-either s t l first count budget (λ (o : ScanOutcome). formed (o .answer .session) (length (o .table)) ≡ true)
-      (λ e. rw (range-length count (dscanOf s first budget) t l) (scanned-formed (rangeRun count (dscanOf s first budget) t l .scanned) s (length t) f))
+      (λ e. rw (range-length count (dscanOf s first budget) t l, answer-session (rangeRun count (dscanOf s first budget) t l .scanned) s) f)
       f
   call-formed l b (Dcheck budget) =
       dcheck-either s t l budget (λ (o : ScanOutcome). formed (o .answer .session) (length (o .table)) ≡ true)
       (λ e.
       let g = dchecked s t l budget .scanned in
-      rw (range-length (s .pages - s .check .place) (dcheckOf s budget) t l) (scanned-formed g (checkedBy s g) (length t) (means-formed (checkedBy s g) (length t) (check-made s t l budget e))))
+      rw (range-length (s .pages - s .check .place) (dcheckOf s budget) t l, answer-session g (checkedBy s g)) (means-formed (checkedBy s g) (length t) (check-made s t l budget e)))
       f
   call-formed l b (Export stream resume info budget) =
       let x = infoOf info in
@@ -138,10 +131,6 @@ module _ (s : Session) (t : List ℕ) (n : length (s .streams) ≡ streamPlaces)
   unfolding tokenOut
   token-streams = either (λ (s' : Session). length (s' .streams) ≡ streamPlaces) (eqb (tokenCode s t) 0) (λ e. n) (λ e. n)
 
-  scanned-streams : (g : Scanned) (s' : Session) → length (s' .streams) ≡ streamPlaces → length (answerOf g s' .session .streams) ≡ streamPlaces
-  unfolding answerOf
-  scanned-streams g s' h = either (λ (a : ScanAnswer). length (a .session .streams) ≡ streamPlaces) (eqb (g .put) 0) (λ e. h) (λ e. h)
-
   run-streams : (i : ℕ) (r : Run) → length (withRun s i r .streams) ≡ streamPlaces
   unfolding withRun
   run-streams i r = either (λ (s' : Session). length (s' .streams) ≡ streamPlaces) (ltb i streamPlaces) (λ e. length-set (s .streams) i (record { run = r }) ∙ n) (λ e. n)
@@ -169,11 +158,11 @@ module _ (s : Session) (t : List ℕ) (n : length (s .streams) ≡ streamPlaces)
   call-streams l b StartToken = token-streams
   call-streams l b (Dscan first count budget) =
       dscan-either s t l first count budget (λ (o : ScanOutcome). length (o .answer .session .streams) ≡ streamPlaces)
-      (λ e. scanned-streams (rangeRun count (dscanOf s first budget) t l .scanned) s n)
+      (λ e. rw (answer-session (rangeRun count (dscanOf s first budget) t l .scanned) s) n)
       n
   call-streams l b (Dcheck budget) =
       dcheck-either s t l budget (λ (o : ScanOutcome). length (o .answer .session .streams) ≡ streamPlaces)
-      (λ e. scanned-streams (dchecked s t l budget .scanned) (checkedBy s (dchecked s t l budget .scanned)) n)
+      (λ e. rw (answer-session (dchecked s t l budget .scanned) (checkedBy s (dchecked s t l budget .scanned))) n)
       n
   call-streams l b (Export stream resume info budget) =
       export-either (λ (o : ExportOutcome). length (o .answer .session .streams) ≡ streamPlaces) s t l b stream resume info budget

@@ -7,7 +7,6 @@ use mathlib.Core.List.{List, [], _∷_, _++_, append-nil, List·Memᴰ, List·Me
 use Prim.Native.Nat.{ℕ, _/_, _^_, _≤_, _<_}
 use native.Mathlib.Omega.{arith}
 use lib.Dec.{eqb, lit<}
-use lib.ListN.{length}
 use borrow.Author.Tests.{eqb-true, eqb-false, leb-false}
 use Rattle.words.specs.Entry.{entryOf, withPending, withState, withL2Map, withOperation, withStatus}
 use Rattle.words.specs.Operations as operations
@@ -20,13 +19,13 @@ use Rattle.states.specs.declared.lists.Listing.{Listing}
 use Rattle.states.proofs.Laws.{operation-lt}
 use Rattle.page.specs.declared.Page.{Page}
 use Rattle.table.specs.Table.{pageCount, wordsAt, pageAt}
-use Rattle.table.proofs.Laws.{put-length, put-back}
+use Rattle.table.proofs.Laws.{put-back}
 use Rattle.session.specs.Session.{among, moving}
 use Rattle.entry.specs.Entry.{unexportable, statusTests, statusOf, answerWord, exportedPage, success, failure, takenOf}
 use Rattle.entry.specs.declared.Ground.{Ground}
 use Rattle.entry.proofs.Laws.{export-known, status-lt, status-success, taken-status}
 use Rattle.export.specs.Run.{Standing, wordOf, placeOf, taking, wordsAfter, stepped}
-use Rattle.export.proofs.Moves.{step-page, step-other}
+use Rattle.export.proofs.Moves.{step-page, step-other, step-length}
 use Rattle.bundle.specs.Bundle.{Sent, madeBy, Rising, Once}
 use Rattle.bundle.proofs.Replay.{rising-more, once-more, Lawful, lawful-more}
 use Rattle.history.specs.History.{operationOf, sentBy}
@@ -93,10 +92,6 @@ module _ (g : Ground) (s : Standing) where
   abbrev pub adds : List Sent
   adds = sentBy (g .epoch) (taking g s .word) (taking g s .buffer)
 
-  pub taken-length : length (stepped g s .table) ≡ length (s .table)
-  unfolding stepped
-  taken-length = put-length (s .table) (placeOf s) (wordsAfter (wordsAt (s .table) (placeOf s)) (taking g s))
-
   sent-adds : statusOf (entryOf (wordOf s)) page g ≡ 0 → adds ≡ (sends ∷ [])
   unfolding takenOf success unexportable
   sent-adds e =
@@ -132,9 +127,9 @@ module _ (g : Ground) (s : Standing) where
         lawful = lawful-more log sends _ (old .has) (old .past) older (n .fits (old .has) (old .ok)) (f .past) (o .lawful);
       },
       record {
-        rows = rows-sent (clockOn g) log sends (s .table) (stepped g s .table) _ taken-length l refl (step-page g s small l ∙ sent-page e) (step-other g s) n (f .rows);
+        rows = rows-sent (clockOn g) log sends (s .table) (stepped g s .table) _ (step-length g s) l refl (step-page g s small l ∙ sent-page e) (step-other g s) n (f .rows);
         past = λ y m. ⊎-elim (λ u. f .past y u) (λ u. omega (arith, ap (λ (v : Sent). v .epoch) (List·Memᴰ·eq-of-singleton u))) (List·Memᴰ·append-cases log m);
-        inside = λ y m. rw taken-length (⊎-elim (λ u. f .inside y u) (λ u. omega (arith, l, ap (λ (v : Sent). v .page) (List·Memᴰ·eq-of-singleton u))) (List·Memᴰ·append-cases log m));
+        inside = λ y m. rw (step-length g s) (⊎-elim (λ u. f .inside y u) (λ u. omega (arith, l, ap (λ (v : Sent). v .page) (List·Memᴰ·eq-of-singleton u))) (List·Memᴰ·append-cases log m));
       },
     )
       where
@@ -155,4 +150,4 @@ module _ (g : Ground) (s : Standing) where
       where
         go : (b : Bool) → eqb (statusOf (entryOf (wordOf s)) page g) 0 ≡ b → Orderly (log ++ adds) × Fine (clockOn g) (log ++ adds) (stepped g s .table)
         go true q = rw (sent-adds (eqb-true _ _ q)) (sent-more (eqb-true _ _ q))
-        go false q = rw (left-adds q, append-nil) (o, fine-steps (omega arith) (record { size = taken-length; at = λ i h. rw (left-words q i) (stay (clockOn g) (pageAt (s .table) i)) }) f)
+        go false q = rw (left-adds q, append-nil) (o, fine-steps (omega arith) (record { size = step-length g s; at = λ i h. rw (left-words q i) (stay (clockOn g) (pageAt (s .table) i)) }) f)

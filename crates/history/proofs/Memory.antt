@@ -1,15 +1,13 @@
 -- The guest's memory, noted from its own calls, is what the table says of each page, call by call: one that is done makes of the page what is noted of it, one
 -- that is refused changes nothing, and the other calls keep what every page holds. With `Copied`, it is the copy of the last pause where the token is granted.
 use mathlib.Core.Path.{_≡_, refl, sym, ap, _∙_}
-use mathlib.Core.Bool.{Bool, true, false, cond, true≢false, false≢true}
+use mathlib.Core.Bool.{Bool, true, false, cond, true≢false}
 use mathlib.Core.List.{List, [], _∷_}
-use Prim.Native.Nat.{ℕ, _+_, _-_, _<_}
-use native.Mathlib.Omega.{arith}
+use Prim.Native.Nat.{ℕ, _+_, _-_}
 use lib.Dec.{eqb}
 use lib.ListN.{length, replicate}
 use borrow.Author.Tests.{eqb-true, eqb-false}
 use Rattle.words.specs.Info.{infoOf}
-use Rattle.words.specs.Record.{room}
 use Rattle.refusals.proofs.Laws.{either}
 use Rattle.page.specs.Page.{pageOf}
 use Rattle.page.specs.Sweeps.{sweptBy, sweptWords}
@@ -19,13 +17,12 @@ use Rattle.page.specs.declared.moves.Move.the-variants as move
 use Rattle.page.specs.declared.sweeps.Sweep.{Sweep}
 use Rattle.page.specs.declared.sweeps.Sweep.the-variants as sweep
 use Rattle.table.specs.Table.{pageCount, wordsAt, pageAt, putAt, sweepOf}
-use Rattle.session.specs.Session.{among, moving, newSession, withTlb, withPhase, runOf, begun}
-use Rattle.session.specs.Formed.{formed}
+use Rattle.session.specs.Session.{moving, newSession, withTlb, withPhase, runOf, begun}
 use Rattle.session.specs.Outcome.{Outcome, answered}
 use Rattle.session.specs.declared.Phase.the-variants.{Idle, Live, Blackout}
 use Rattle.session.specs.declared.Session.{Session}
 use Rattle.session.proofs.Laws.{answered-either, gate-open}
-use Rattle.session.proofs.FormedLaws.{formed-means}
+use Rattle.session.proofs.FormedLaws.{tlb-fits, epoch-fits}
 use Rattle.memory.specs.Memory.{newCode, newOut, pageTurn, onPage, writeOut, addOut, acceptOut, blockOut, unblockOut, removeOut, trackCode, trackOut}
 use Rattle.memory.proofs.Laws.{page-done, page-other}
 use Rattle.migration.specs.Migration.{startCode, startOut, pauseCode, pauseOut, abortCode, abortOut, newEpochOut, resetOut}
@@ -100,14 +97,6 @@ new-holds s t created =
     answered-either (λ (o : Outcome). eqb (o .answer .code) 0 ≡ true → Holds (o .table) nothing) (newCode (length t) created) s t (newSession (pageCount t) created) (replicate (length t) 0)
     (λ q e. new-content (length t))
     (λ q e. absurd (true≢false (sym e ∙ q)))
-
--- both epochs of a session that passes 40 are ones that a record holds
-tlb-fits : (s : Session) (len : ℕ) → formed s len ≡ true → s .tlb < room
-tlb-fits s len f = omega (arith, formed-means s len f .tlb .high)
-
-epoch-fits : (s : Session) (len : ℕ) → formed s len ≡ true → among moving (s .phase) ≡ true → s .epoch < room
-epoch-fits s len f c =
-    omega (arith, formed-means s len f .begun (λ e. false≢true (sym (ap (among moving) e) ∙ c)) .high)
 
 dscan-holds : (s : Session) (t l : List ℕ) (first count budget : ℕ) (m : ℕ → Holding) → Holds t m → Holds (dscanOut s t l first count budget .table) m
 unfolding dscanCode

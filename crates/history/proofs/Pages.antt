@@ -1,7 +1,7 @@
 -- One page: what always holds between calls of it and of what the destination has of it. Every move of a page keeps that (`Moves`, `Entries`, `Sweeps`), since
 -- what a move asks of Dirty, Cached and stamp is what the destination's copy needs.
 use native.Mathlib.Omega.{arith}
-use mathlib.Core.Path.{_≡_, refl, _∙_}
+use mathlib.Core.Path.{_≡_, refl}
 use mathlib.Core.Bool.{Bool, true, false, false≢true}
 use Prim.Native.Nat.{ℕ, _≤_, _<_}
 use Rattle.states.specs.declared.State.{State}
@@ -86,9 +86,6 @@ pub record Step (k k' : Clock) (p q : Page) : Type 0 where
 
 pub stay : (k : Clock) (p : Page) → Step k k p p
 stay k p = record { ok = λ h o. o; kept = refl }
-
-pub trans : {k₁ k₂ k₃ : Clock} {p q r : Page} → Step k₁ k₂ p q → Step k₂ k₃ q r → Step k₁ k₃ p r
-trans a b = record { ok = λ h o. b .ok h (a .ok h o); kept = b .kept ∙ a .kept }
 
 -- ---- what the moves use
 

@@ -36,12 +36,12 @@ abbrev pub Named : List ℕ → ℕ → Type 0
 Named l i = (word : ℕ) × List·Memᴰ word l × Names word i
 
 -- a page that was passed
-abbrev pub Fine : List ℕ → ℕ → Page → Type 0
-Fine l i p = Ready p ⊎ (Due p × Named l i)
+abbrev pub ReadyOrNamed : List ℕ → ℕ → Page → Type 0
+ReadyOrNamed l i p = Ready p ⊎ (Due p × Named l i)
 
-fine-more : (l m : List ℕ) (i : ℕ) (p : Page) → Fine l i p → Fine (l ++ m) i p
-fine-more l m i p (inl r) = inl r
-fine-more l m i p (inr x) = inr (x .0, (x .1 .0, Memᴰ·append-left m (x .1 .1), x .1 .2))
+named-more : (l m : List ℕ) (i : ℕ) (p : Page) → ReadyOrNamed l i p → ReadyOrNamed (l ++ m) i p
+named-more l m i p (inl r) = inl r
+named-more l m i p (inr x) = inr (x .0, (x .1 .0, Memᴰ·append-left m (x .1 .1), x .1 .2))
 
 -- ---- along the run
 
@@ -51,7 +51,7 @@ record Passing (scan : Scan) (n space i put : ℕ) (part list : List ℕ) : Type
   long : length list ≡ space
   inside : i ≤ n
   few : put ≤ i
-  passed : (j : ℕ) → j < i → Fine (take put list) (scan .first + j) (pageAt part j)
+  passed : (j : ℕ) → j < i → ReadyOrNamed (take put list) (scan .first + j) (pageAt part j)
   ahead : (j : ℕ) → i ≤ j → j < n → Calm (pageAt part j)
 
 -- how it ends, at page i of n: behind the last one, 3; with the budget spent, 1; with the list full, 2
@@ -69,22 +69,22 @@ pub record Filled (space answer i n : ℕ) : Type 0 where
   pub full : space ≤ i
   pub place : i < n
 
-abbrev pub Stopped : ℕ → ℕ → ℕ → ℕ → ℕ → Type 0
-Stopped budget space code i n = Ended code i n ⊎ (Spent budget code i n ⊎ Filled space code i n)
+abbrev pub Ending : ℕ → ℕ → ℕ → ℕ → ℕ → Type 0
+Ending budget space code i n = Ended code i n ⊎ (Spent budget code i n ⊎ Filled space code i n)
 
 -- a run that ended at some page
 record Ran (scan : Scan) (n space : ℕ) (o : ScanOut) : Type 0 where
   at : ℕ
   next : o .scanned .next ≡ scan .first + at
   passing : Passing scan n space at (o .scanned .put) (o .part) (o .list)
-  how : Stopped (scan .budget) space (o .scanned .code) at n
+  how : Ending (scan .budget) space (o .scanned .code) at n
 
 -- a code that ends the run before the last page, where the page is not blocked
-stop-how : (scan : Scan) (f : Look) (i put space n : ℕ) → f .blocked ≡ false → put ≤ i → i < n → eqb (stopCode scan f i put space) 0 ≡ false → Stopped (scan .budget) space (stopCode scan f i put space) i n
+stop-how : (scan : Scan) (f : Look) (i put space n : ℕ) → f .blocked ≡ false → put ≤ i → i < n → eqb (stopCode scan f i put space) 0 ≡ false → Ending (scan .budget) space (stopCode scan f i put space) i n
 unfolding stopCode
 stop-how scan f i put space n b h l e = go (leb (scan .budget) i) refl (scan .checking && f .blocked) (rw b (and-false (scan .checking))) (f .listed && leb space put) refl e
   where
-    go : (x : Bool) → leb (scan .budget) i ≡ x → (y : Bool) → y ≡ false → (z : Bool) → (f .listed && leb space put) ≡ z → eqb (cond x codes.interrupted (cond y codes.memScanFailedBlockedRange (cond z codes.listFull 0))) 0 ≡ false → Stopped (scan .budget) space (cond x codes.interrupted (cond y codes.memScanFailedBlockedRange (cond z codes.listFull 0))) i n
+    go : (x : Bool) → leb (scan .budget) i ≡ x → (y : Bool) → y ≡ false → (z : Bool) → (f .listed && leb space put) ≡ z → eqb (cond x codes.interrupted (cond y codes.memScanFailedBlockedRange (cond z codes.listFull 0))) 0 ≡ false → Ending (scan .budget) space (cond x codes.interrupted (cond y codes.memScanFailedBlockedRange (cond z codes.listFull 0))) i n
     go true p y q z r e = inr (inl (record { code = refl; spent = leb-true _ _ p; place = l }))
     go false p true q z r e = absurd (true≢false q)
     go false p false q true r e =
@@ -134,8 +134,8 @@ module _ (scan : Scan) (n space i put : ℕ) (part list : List ℕ) (tlb : scan 
             passed = λ j k.
                 rw (written h)
                 (⊎-elim
-                (λ s. subst (λ (x : ℕ). Fine words (scan .first + x) (pageAt (putAt part i (look .words)) x)) (sym s) (rw page (inr (listed-due (pageAt part i) (scan .tlb) (p .ahead i (omega arith) l) q, names))))
-                (λ s. rw (other j (λ z. omega (arith, s, z))) (fine-more (take put list) (look .word ∷ []) (scan .first + j) (pageAt part j) (p .passed j s)))
+                (λ s. subst (λ (x : ℕ). ReadyOrNamed words (scan .first + x) (pageAt (putAt part i (look .words)) x)) (sym s) (rw page (inr (listed-due (pageAt part i) (scan .tlb) (p .ahead i (omega arith) l) q, names))))
+                (λ s. rw (other j (λ z. omega (arith, s, z))) (named-more (take put list) (look .word ∷ []) (scan .first + j) (pageAt part j) (p .passed j s)))
                 (eq-or-lt-of-le {n = j} {m = i} (omega (arith, k))));
             ahead = λ j k m. rw (other j (λ z. omega (arith, k, z))) (p .ahead j (omega (arith, k)) m);
           }
@@ -147,7 +147,7 @@ module _ (scan : Scan) (n space i put : ℕ) (part list : List ℕ) (tlb : scan 
             few = omega (arith, p .few);
             passed = λ j k.
                 ⊎-elim
-                (λ s. subst (λ (x : ℕ). Fine (take put list) (scan .first + x) (pageAt part x)) (sym s) (inl (unlisted-ready (pageAt part i) (p .ahead i (omega arith) l) q)))
+                (λ s. subst (λ (x : ℕ). ReadyOrNamed (take put list) (scan .first + x) (pageAt part x)) (sym s) (inl (unlisted-ready (pageAt part i) (p .ahead i (omega arith) l) q)))
                 (λ s. p .passed j s)
                 (eq-or-lt-of-le {n = j} {m = i} (omega (arith, k)));
             ahead = λ j k m. p .ahead j (omega (arith, k)) m;
@@ -163,7 +163,7 @@ run-ran (suc left) scan n space i put part list c tlb fits e p =
     let calm : Calm (pageAt part i) = p .ahead i (omega arith) l in
     either (λ (o : ScanOut). Ran scan n space o) (eqb (stopCode scan f i put (length list)) 0)
     (λ z. run-ran left scan n space (i + 1) _ _ _ c tlb fits (omega arith) (visited scan n space i put part list tlb fits p l (eqb-true _ _ z)))
-    (λ z. record { at = i; next = refl; passing = p; how = subst (λ (x : ℕ). Stopped (scan .budget) x (stopCode scan f i put (length list)) i n) (p .long) (stop-how scan f i put (length list) n (look-blocked (wordsAt part i) (scan .first + i) (scan .tlb) ∙ calm .unblocked) (p .few) l z) })
+    (λ z. record { at = i; next = refl; passing = p; how = subst (λ (x : ℕ). Ending (scan .budget) x (stopCode scan f i put (length list)) i n) (p .long) (stop-how scan f i put (length list) n (look-blocked (wordsAt part i) (scan .first + i) (scan .tlb) ∙ calm .unblocked) (p .few) l z) })
 
 -- ---- in the table
 
@@ -171,10 +171,10 @@ run-ran (suc left) scan n space i put part list c tlb fits e p =
 pub record Swept (scan : Scan) (count : ℕ) (t l : List ℕ) (o : ScanOut) : Type 0 where
   pub at : ℕ
   pub next : o .scanned .next ≡ scan .first + at
-  pub how : Stopped (scan .budget) (length l) (o .scanned .code) at count
+  pub how : Ending (scan .budget) (length l) (o .scanned .code) at count
   pub long : length (o .list) ≡ length l
   pub before : (k : ℕ) → k < scan .first → pageAt (o .part) k ≡ pageAt t k
-  pub passed : (k : ℕ) → scan .first ≤ k → k < scan .first + at → Fine (take (o .scanned .put) (o .list)) k (pageAt (o .part) k)
+  pub passed : (k : ℕ) → scan .first ≤ k → k < scan .first + at → ReadyOrNamed (take (o .scanned .put) (o .list)) k (pageAt (o .part) k)
 
 module _ (count : ℕ) (scan : Scan) (t l : List ℕ) (fits : 2 * scan .first + 2 * count ≤ length t) where
   abbrev part : List ℕ
@@ -204,6 +204,6 @@ module _ (count : ℕ) (scan : Scan) (t l : List ℕ) (fits : 2 * scan .first + 
             let j : ℕ = k - scan .first in
             let there : scan .first + j ≡ k = omega (arith, h) in
             let inside : j < count = omega (arith, h, m, r .passing .inside) in
-            subst (λ (x : ℕ). Fine (take (scanRun count scan 0 0 part l .scanned .put) (scanRun count scan 0 0 part l .list)) x (pageAt (patched t (scan .first) count (scanRun count scan 0 0 part l .part)) x)) there
+            subst (λ (x : ℕ). ReadyOrNamed (take (scanRun count scan 0 0 part l .scanned .put) (scanRun count scan 0 0 part l .list)) x (pageAt (patched t (scan .first) count (scanRun count scan 0 0 part l .part)) x)) there
             (rw (patched-in t (scan .first) count (scanRun count scan 0 0 part l .part) fits size j inside) (r .passing .passed j (omega (arith, h, m))));
       }

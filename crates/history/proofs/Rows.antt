@@ -1,13 +1,14 @@
 -- From one page to the table: what a call does is a step of each page, or one entry more; and what holds of every page with the log.
 use mathlib.Core.Path.{_≡_, refl, sym, _∙_}
-use mathlib.Core.Logic.{_⊎_, inl, inr, ⊎-elim}
+use mathlib.Core.Logic.{inl, inr}
 use mathlib.Core.Bool.{Bool, true, false, true≢false}
 use mathlib.Core.List.{List, [], _∷_, _++_}
 use Prim.Native.Nat.{ℕ, _+_, _*_, _≤_, _<_}
 use native.Mathlib.Omega.{arith}
+use native.Mathlib.Decide.{ℕ-discrete}
 use lib.Dec.{eqb}
 use lib.ListN.{length}
-use borrow.Author.Tests.{eqb-true, eqb-false}
+use borrow.Author.Tests.{eqb-true}
 use Rattle.words.specs.Record.{room}
 use Rattle.page.specs.Sweeps.{sweptBy, sweptWords, unlessStrange}
 use Rattle.page.specs.declared.Page.{Page}
@@ -33,13 +34,6 @@ use Rattle.history.proofs.Moves.{move-step, listed-step}
 use Rattle.history.proofs.Contents.{call-done}
 use Rattle.history.proofs.Entries.{Sends}
 
-same-or : (i j : ℕ) → (i ≡ j) ⊎ (i ≡ j → ⊥)
-same-or i j = go (eqb i j) refl
-  where
-    go : (b : Bool) → eqb i j ≡ b → (i ≡ j) ⊎ (i ≡ j → ⊥)
-    go true e = inl (eqb-true i j e)
-    go false e = inr (eqb-false i j e)
-
 -- ---- steps of all pages
 
 pub record Steps (k k' : Clock) (t t' : List ℕ) : Type 0 where
@@ -62,7 +56,7 @@ page-length m s t at =
     answered-either (λ (o : Outcome). length (o .table) ≡ length t) (turn .code) s t s (putAt t at (turn .words)) (λ q. put-length t at (turn .words)) (λ q. refl)
 
 pub page-steps : (m : Move) (s : Session) (t : List ℕ) (at : ℕ) → Steps (clockOf s) (clockOf s) t (onPage m s t at .table)
-page-steps m s t at = record { size = page-length m s t at; at = λ i h. ⊎-elim (same i) (other i) (same-or i at) }
+page-steps m s t at = record { size = page-length m s t at; at = λ i h. elim (ℕ-discrete i at) [ yes e ↦ same i e | no ne ↦ other i ne ] }
   where
     o : Outcome
     o = onPage m s t at
@@ -128,7 +122,7 @@ rows-anew x k k' log t o r i h =
 
 -- one entry more
 pub rows-sent : (k : Clock) (log : List Sent) (z : Sent) (t t' : List ℕ) (q : Page) → length t' ≡ length t → z .page < pageCount t → z .epoch ≡ k .epoch → pageAt t' (z .page) ≡ q → ((i : ℕ) → (i ≡ z .page → ⊥) → wordsAt t' i ≡ wordsAt t i) → Sends k (pageAt t (z .page)) q (z .operation) (madeBy z) → Rows k log t → Rows k (log ++ (z ∷ [])) t'
-rows-sent k log z t t' q size l b here beside n r i h = ⊎-elim same other (same-or i (z .page))
+rows-sent k log z t t' q size l b here beside n r i h = elim (ℕ-discrete i (z .page)) [ yes e ↦ same e | no ne ↦ other ne ]
   where
     h' : i < pageCount t
     h' = rw size at h

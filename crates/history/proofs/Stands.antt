@@ -1,44 +1,40 @@
 -- The calls that make no entry: each steps every page, or makes every page anew with nothing at the destination.
 use mathlib.Core.Path.{_≡_, refl}
-use mathlib.Core.Bool.{true, false}
 use mathlib.Core.List.{List, [], _∷_}
 use Prim.Native.Nat.{ℕ, _+_, _-_, _*_, _≤_, _<_}
 use native.Mathlib.Omega.{arith}
 use lib.Dec.{eqb}
-use lib.ListN.{length, replicate, length-replicate, getD-replicate}
-use borrow.Author.Tests.{eqb-true, lt-ltb}
+use lib.ListN.{length, replicate}
+use borrow.Author.Tests.{eqb-true}
 use Rattle.words.specs.Codes as codes
-use Rattle.words.specs.Record.{recordOf, plain, room}
+use Rattle.words.specs.Record.{room}
 use Rattle.refusals.specs.Refusals.{_gives_}
 use Rattle.refusals.proofs.Laws.{either}
-use Rattle.states.specs.States.{stateOf}
-use Rattle.states.specs.declared.State.the-variants as state
-use Rattle.page.specs.Page.{pageOf, blocked}
+use Rattle.page.specs.Page.{blocked}
 use Rattle.page.specs.declared.moves.Move.{Move}
 use Rattle.page.specs.declared.sweeps.Sweep.the-variants as sweep
 use Rattle.table.specs.Table.{pageCount, wordsAt, pageAt, putAt, some}
 use Rattle.table.proofs.Laws.{some-none}
 use Rattle.session.specs.Session.{guest, begun, withPhase, withTlb, withEpoch, withCheck, unchecked, newSession}
-use Rattle.session.specs.Formed.{formed, busy}
+use Rattle.session.specs.Formed.{busy}
 use Rattle.session.specs.Outcome.{Outcome}
 use Rattle.session.specs.declared.Phase.{Phase}
 use Rattle.session.specs.declared.Phase.the-variants.{Idle, Live, Blackout, Done}
 use Rattle.session.specs.declared.Session.{Session}
 use Rattle.session.proofs.Laws.{answered-either, gate-open}
-use Rattle.session.proofs.FormedLaws.{formed-means}
+use Rattle.session.proofs.FormedLaws.{tlb-fits}
 use Rattle.memory.specs.Memory.{newCode, newOut, pageTurn, onPage, trackTests, trackCode, trackOut}
 use Rattle.migration.specs.Migration.{pauseCode, pauseOut, abortCode, abortOut, newEpochCode, newEpochOut, resetCode, resetOut}
 use Rattle.migration.specs.Token.{tokenTests, tokenCode, tokenOut}
-use Rattle.scan.specs.Scan.{rangeRun, answerOf, checkedBy, ScanOutcome, dscanTests, dscanCode, dscanOf, dscanOut, dcheckTests, dcheckCode, dcheckOf, dcheckOut}
+use Rattle.scan.specs.Scan.{rangeRun, checkedBy, ScanOutcome, dscanTests, dscanCode, dscanOf, dscanOut, dcheckTests, dcheckCode, dcheckOf, dcheckOut}
 use Rattle.scan.specs.declared.Scan.{Scan}
-use Rattle.scan.specs.declared.Scanned.{Scanned}
-use Rattle.scan.specs.declared.ScanAnswer.{ScanAnswer}
 use Rattle.scan.proofs.Laws.{dscan-fits, dcheck-fits}
-use Rattle.scan.proofs.Outcomes.{dscanned, dscan-either, dchecked, dcheck-either}
+use Rattle.scan.proofs.Outcomes.{answer-session, dscanned, dscan-either, dchecked, dcheck-either}
 use Rattle.bundle.specs.Bundle.{absent, Sent}
 use Rattle.bundle.proofs.Replay.{past-none}
 use Rattle.history.proofs.Pages.{clockOf}
 use Rattle.history.proofs.Moves.{still-guest}
+use Rattle.history.proofs.Contents.{zero-page}
 use Rattle.history.proofs.Sweeps.{uncached-step, session-step, aborted-ok}
 use Rattle.history.proofs.Sessions.{not-idle}
 use Rattle.history.proofs.Rows.{page-steps, swept, sweep-steps, scan-steps, rows-anew}
@@ -63,17 +59,10 @@ since-begun Done log n = refl
 
 -- ---- New
 
--- a table of zeros
-zero-page : (n i : ℕ) → i < pageCount (replicate n 0) → pageAt (replicate n 0) i ≡ record { state = state.Free; dirty = false; cached = false; stamp = 0; epoch = 0; mark = 0 }
-unfolding wordsAt pageOf plain recordOf stateOf
-zero-page n i h =
-    let size : length {A = ℕ} (replicate n 0) ≡ n = length-replicate {A = ℕ} n 0 in
-    rw (lt-ltb i (pageCount (replicate n 0)) h, getD-replicate {A = ℕ} n (2 * i) 0 0 (omega (arith, h, size)), getD-replicate {A = ℕ} n (2 * i + 1) 0 0 (omega (arith, h, size)))
-
 pub anew-stands : (pages created n : ℕ) (log : List Sent) → Stands (newSession pages created) (replicate n 0) log
 anew-stands pages created n log =
     fine-none
-    (λ i h. rw (zero-page n i h) (record {
+    (λ i h. rw (zero-page n i) (record {
       has = absent;
       ok = record { young = omega arith; there = refl; same = tt; seen = λ a b x. refl; still = tt };
       past = past-none i;
@@ -86,13 +75,6 @@ unfolding onPage
 page-session m s t at =
     let turn = pageTurn m s (length t) at (wordsAt t at) in
     answered-either (λ (o : Outcome). o .answer .session ≡ s) (turn .code) s t s (putAt t at (turn .words)) (λ e. refl) (λ e. refl)
-
-answer-session : (g : Scanned) (s : Session) → answerOf g s .session ≡ s
-unfolding answerOf
-answer-session g s = either (λ (a : ScanAnswer). a .session ≡ s) (eqb (g .put) 0) (λ e. refl) (λ e. refl)
-
-tlb-small : (s : Session) (len : ℕ) → formed s len ≡ true → s .tlb < room
-tlb-small s len e = omega (arith, formed-means s len e .tlb .high)
 
 -- ---- each call
 
@@ -177,7 +159,7 @@ module _ (s : Session) (t : List ℕ) (log : List Sent) (f : Stands s t log) whe
       (λ z.
       let o = gate-open s (length t) (Live ∷ []) (dscanTests s (length l) first count) refl z in
       rw (answer-session (dscanned s t l first count budget .scanned) s)
-      (scan-stands count (dscanOf s first budget) l refl (tlb-small s (length t) (o .formed)) (dscan-fits s (length t) (length l) first count z .0)))
+      (scan-stands count (dscanOf s first budget) l refl (tlb-fits s (length t) (o .formed)) (dscan-fits s (length t) (length l) first count z .0)))
       f
 
   pub dcheck-stands : (l : List ℕ) (budget : ℕ) → Stands (dcheckOut s t l budget .answer .session) (dcheckOut s t l budget .table) log
@@ -187,5 +169,5 @@ module _ (s : Session) (t : List ℕ) (log : List Sent) (f : Stands s t log) whe
       (λ z.
       let o = gate-open s (length t) (Blackout ∷ []) (dcheckTests s (length l)) refl z in
       rw (answer-session (dchecked s t l budget .scanned) (checkedBy s (dchecked s t l budget .scanned)))
-      (scan-stands (s .pages - s .check .place) (dcheckOf s budget) l refl (tlb-small s (length t) (o .formed)) (dcheck-fits s (length t) (length l) z .1 .0)))
+      (scan-stands (s .pages - s .check .place) (dcheckOf s budget) l refl (tlb-fits s (length t) (o .formed)) (dcheck-fits s (length t) (length l) z .1 .0)))
       f

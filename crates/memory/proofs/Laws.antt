@@ -7,7 +7,6 @@ use native.Mathlib.Omega.{arith}
 use lib.Dec.{eqb}
 use lib.ListN.{length}
 use borrow.Author.Tests.{leb-false, eqb-true, eqb-false, eq-eqb}
-use Rattle.words.specs.Record.{room}
 use Rattle.refusals.proofs.Laws.{passed, not-false}
 use Rattle.page.specs.Page.{pageOf, written}
 use Rattle.page.specs.Moves.{stepOf, turnOf}
@@ -22,7 +21,7 @@ use Rattle.session.specs.Formed.{formed, lastEpoch}
 use Rattle.session.specs.Outcome.{Outcome}
 use Rattle.session.specs.declared.Session.{Session}
 use Rattle.session.proofs.Laws.{gate-open, answered-either, answered-words}
-use Rattle.session.proofs.FormedLaws.{formed-means}
+use Rattle.session.proofs.FormedLaws.{formed-means, tlb-fits}
 use Rattle.memory.specs.Memory.{pageTests, pageCode, pageTurn, onPage, trackTests, trackCode}
 
 pub track-room : (s : Session) (len : ℕ) → trackCode s len ≡ 0 → s .tlb < lastEpoch
@@ -72,11 +71,10 @@ page-done m s t at =
     made e =
         let d = turn-done m s (length t) at (wordsAt t at) e in
         let i = page-inside m s (length t) at (d .0) in
-        let small : s .tlb < room = omega (arith, formed-means s (length t) (i .formed) .tlb .high) in
         let same : turn .words ≡ written (wordsAt t at) (stepOf m (pageAt t at) (s .tlb) .page)
         = ap (λ (x : Turn). x .words) (d .1) ∙ turn-words m (wordsAt t at) (s .tlb) (sym (ap (λ (x : Turn). x .code) (d .1)) ∙ e) in
         ap (λ (w : PageWords). pageAt (putAt t at w) at) same
-        ∙ page-put t at (stepOf m (pageAt t at) (s .tlb) .page) (i .below) (step-becomes m (pageAt t at) (s .tlb) small)
+        ∙ page-put t at (stepOf m (pageAt t at) (s .tlb) .page) (i .below) (step-becomes m (pageAt t at) (s .tlb) (tlb-fits s (length t) (i .formed)))
 
 -- and a page that it is not on
 pub page-other : (m : Move) (s : Session) (t : List ℕ) (at k : ℕ) → (k ≡ at → ⊥) → wordsAt (onPage m s t at .table) k ≡ wordsAt t k

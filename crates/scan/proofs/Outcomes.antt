@@ -24,6 +24,7 @@ use Rattle.session.specs.declared.Session.{Session}
 use Rattle.scan.specs.Look.{listedPage, lookOf}
 use Rattle.scan.specs.Scan.{stopTests, stopCode, endCode, ScanOut, scanRun, rangeRun, answerOf, ScanOutcome, refusedScan, ranScan, dscanCode, dscanOf, dscanOut, dcheckCode, dcheckOf, checkedBy, dcheckOut}
 use Rattle.scan.specs.declared.Scan.{Scan}
+use Rattle.scan.specs.declared.Scanned.{Scanned}
 use Rattle.scan.specs.declared.ScanAnswer.{ScanAnswer}
 use Rattle.scan.proofs.Laws.{dscan-fits, dcheck-fits}
 use Rattle.scan.proofs.RangeLaws.{range-strange}
@@ -55,7 +56,18 @@ pub look-page : (w : PageWords) (number tlb : ℕ) → tlb < room → pageOf (lo
 unfolding lookOf
 look-page w number tlb r = page-becomes w (listedPage (pageOf w) tlb) (listed-becomes (pageOf w) tlb r)
 
--- ---- the codes of a scan that ran
+-- ---- the answer of a scan that ran
+
+-- it has the session and the code that it is given
+pub answer-session : (g : Scanned) (s : Session) → answerOf g s .session ≡ s
+unfolding answerOf
+answer-session g s = either (λ (a : ScanAnswer). a .session ≡ s) (eqb (g .put) 0) (λ e. refl) (λ e. refl)
+
+pub answer-code : (g : Scanned) (s : Session) → answerOf g s .code ≡ g .code
+unfolding answerOf
+answer-code g s = either (λ (a : ScanAnswer). a .code ≡ g .code) (eqb (g .put) 0) (λ e. refl) (λ e. refl)
+
+-- ---- its codes
 
 -- what holds of 0, 1, 2, 3 and 51
 pub record OfScans (f : ℕ → Bool) : Type 0 where
@@ -76,10 +88,8 @@ module _ (f : ℕ → Bool) (h : OfScans f) where
       (λ e. first-all f (stopTests scan look i put (length list)) (h .done) (rw (h .interrupted, h .blocked, h .full)))
 
   pub range-code : (count : ℕ) (scan : Scan) (t l : List ℕ) (s : Session) → f (answerOf (rangeRun count scan t l .scanned) s .code) ≡ true
-  unfolding rangeRun answerOf
-  range-code count scan t l s =
-      let ran : f (rangeRun count scan t l .scanned .code) ≡ true = run-code count scan 0 0 _ l in
-      either (λ (a : ScanAnswer). f (a .code) ≡ true) (eqb (rangeRun count scan t l .scanned .put) 0) (λ e. ran) (λ e. ran)
+  unfolding rangeRun
+  range-code count scan t l s = rw (answer-code (rangeRun count scan t l .scanned) s) (run-code count scan 0 0 _ l)
 
 -- ---- the calls
 

@@ -9,6 +9,7 @@ use native.Mathlib.Nat.{eq-or-lt-of-le, le-of-suc-le-suc}
 use lib.Dec.{eqb, ltb, leb}
 use lib.ListN.{getD}
 use borrow.Author.Tests.{le-leb, leb-true, lt-ltb, ltb-true, eq-eqb, eqb-true, ne-eqb, eqb-false}
+use Rattle.words.specs.Record.{room}
 use Rattle.refusals.proofs.Laws.{and-left, and-right, not-true, not-false}
 use Rattle.table.specs.Table.{legal, mostPages}
 use Rattle.session.specs.Session.{among, moving, resting, streamPlaces}
@@ -140,6 +141,14 @@ formed-means s len e =
     not-both : (a b : Bool) → a ≡ true → (a && b) ≡ false → b ≡ false
     not-both true b x e = e
     not-both false b x e = absurd (false≢true x)
+
+-- a record holds both epochs
+pub tlb-fits : (s : Session) (len : ℕ) → formed s len ≡ true → s .tlb < room
+tlb-fits s len f = omega (arith, formed-means s len f .tlb .high)
+
+pub epoch-fits : (s : Session) (len : ℕ) → formed s len ≡ true → among moving (s .phase) ≡ true → s .epoch < room
+epoch-fits s len f c =
+    omega (arith, formed-means s len f .begun (λ e. false≢true (sym (ap (among moving) e) ∙ c)) .high)
 
 pub means-formed : (s : Session) (len : ℕ) → Formed s len → formed s len ≡ true
 unfolding formed legal numberTests
