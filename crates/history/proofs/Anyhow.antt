@@ -27,8 +27,7 @@ use Rattle.history.specs.History.{World, cameTo, after}
 use Rattle.history.specs.Earning.{granted, Exporting, exporting, exportingAll, took, tookAll}
 use Rattle.history.proofs.Formed.{formed-after}
 use Rattle.history.proofs.Exports.{ran-came, none-came, withStreams, finished-streams}
-use Rattle.history.proofs.Waiting.{Names, Listed, Left}
-use Rattle.history.proofs.Passing.{Named}
+use Rattle.history.proofs.Waiting.{Names, Listed, Left, Named}
 use Rattle.history.proofs.Ahead.{Ahead, Waits, waits-map, place-of, none-ahead, Along, call-along}
 
 -- paused and checked, with some words left to take

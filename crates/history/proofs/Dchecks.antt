@@ -26,9 +26,9 @@ use Rattle.scan.proofs.Laws.{dcheck-fits}
 use Rattle.scan.proofs.Outcomes.{answer-session, answer-code, dchecked, dcheck-either}
 use Rattle.calls.specs.Calls.{scanEffect}
 use Rattle.history.specs.Earning.{entriesOf, withList}
-use Rattle.history.proofs.Waiting.{Due, Listed, Short}
+use Rattle.history.proofs.Waiting.{Due, Listed, Short, Named}
 use Rattle.history.proofs.Looks.{Calm}
-use Rattle.history.proofs.Passing.{Named, Ending, Swept, range-swept}
+use Rattle.history.proofs.Passing.{Ending, Swept, range-swept}
 
 -- page i is ready, or due and named in one of the lists
 abbrev pub ReadyOrListed : List ℕ → List (List ℕ) → ℕ → Type 0

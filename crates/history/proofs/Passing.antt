@@ -3,7 +3,7 @@
 use mathlib.Core.Path.{_≡_, refl, sym, ap, subst, _∙_}
 use mathlib.Core.Logic.{_⊎_, inl, inr, ⊎-elim}
 use mathlib.Core.Bool.{Bool, true, false, cond, _&&_, true≢false}
-use mathlib.Core.List.{List, [], _∷_, _++_, List·Memᴰ, List·Memᴰ·head, Memᴰ·append-left, Memᴰ·append-right}
+use mathlib.Core.List.{List, [], _∷_, _++_, List·Memᴰ·head, Memᴰ·append-left, Memᴰ·append-right}
 use Prim.Native.Nat.{ℕ, zero, suc, _+_, _-_, _*_, _/_, _≤_, _<_}
 use native.Mathlib.Omega.{arith}
 use native.Mathlib.Nat.{eq-or-lt-of-le}
@@ -28,12 +28,8 @@ use Rattle.scan.specs.declared.Scan.{Scan}
 use Rattle.scan.proofs.Laws.{stop-room, part-length, part-pages, and-false}
 use Rattle.scan.proofs.RangeLaws.{run-length, patched-in, part-in, range-out}
 use Rattle.scan.proofs.Outcomes.{look-page}
-use Rattle.history.proofs.Waiting.{Names, Due}
+use Rattle.history.proofs.Waiting.{Due, Named}
 use Rattle.history.proofs.Looks.{Calm, unlisted-ready, listed-due, listed-names}
-
--- page i is named by a word of a list
-abbrev pub Named : List ℕ → ℕ → Type 0
-Named l i = (word : ℕ) × List·Memᴰ word l × Names word i
 
 -- a page that was passed
 abbrev pub ReadyOrNamed : List ℕ → ℕ → Page → Type 0

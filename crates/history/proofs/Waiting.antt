@@ -31,9 +31,13 @@ pub record Due (p : Page) : Type 0 where
   -- of 26 and 31 an export makes 1 and 3, which are not ready
   pub unblocked : blocked p ≡ false
 
--- page i is named in one of the lists
+-- page i is named in a list
+abbrev pub Named : List ℕ → ℕ → Type 0
+Named l i = (word : ℕ) × List·Memᴰ word l × Names word i
+
+-- and in one of some lists
 abbrev pub Listed : List (List ℕ) → ℕ → Type 0
-Listed lists i = (l : List ℕ) × List·Memᴰ l lists × ((word : ℕ) × List·Memᴰ word l × Names word i)
+Listed lists i = (l : List ℕ) × List·Memᴰ l lists × Named l i
 
 -- a list that the bench takes
 pub record Short (l : List ℕ) : Type 0 where
