@@ -12,7 +12,7 @@ use Rattle.table.specs.Table.{mostPages, pageCount}
 use Rattle.session.specs.Formed.{busy, mostEntries}
 use Rattle.session.proofs.FormedLaws.{formed-means}
 use Rattle.history.specs.History.{World, History, atEnd}
-use Rattle.history.specs.Earning.{granted, Paused, Ask, Full, check, complete, mostLists, fullAsks, prepared, Sending, Whole, sendingAll, Plan, atOnce, Exporting, exportingAll, tookAll}
+use Rattle.history.specs.Earning.{granted, Paused, Ask, Full, check, complete, mostLists, fullAsks, prepared, Sending, Whole, sendingAll, Plan, atOnce, Exporting, exportingAll, TookEvery}
 use Rattle.history.specs.Promises.{All, Earned}
 use Rattle.history.proofs.Sound.{sound-end}
 use Rattle.history.proofs.Formed.{stays-formed, streams-end}
@@ -29,7 +29,7 @@ lists-earn : (h : History) → Paused (atEnd h) → (asks : List Ask) → comple
 lists-earn h p asks c xs plan =
     left-granted (atEnd h) (prepared (atEnd h) asks) (check (atEnd h) asks .lists) xs (left h p asks c) (plan .same) (plan .whole)
 
-exports-earn : (h : History) → Paused (atEnd h) → (asks : List Ask) → complete (check (atEnd h) asks .world) ≡ true → (xs : List Exporting) → ((l : List ℕ) → List·Memᴰ l (check (atEnd h) asks .lists) → (word : ℕ) → List·Memᴰ word l → List·Memᴰ word (tookAll (prepared (atEnd h) asks) xs)) → busy (exportingAll (prepared (atEnd h) asks) xs .session) ≡ false → granted (exportingAll (prepared (atEnd h) asks) xs) ≡ true
+exports-earn : (h : History) → Paused (atEnd h) → (asks : List Ask) → complete (check (atEnd h) asks .world) ≡ true → (xs : List Exporting) → TookEvery (prepared (atEnd h) asks) (check (atEnd h) asks .lists) xs → busy (exportingAll (prepared (atEnd h) asks) xs .session) ≡ false → granted (exportingAll (prepared (atEnd h) asks) xs) ≡ true
 exports-earn h p asks c xs all rest = left-anyhow (prepared (atEnd h) asks) (atEnd h .session .created) (check (atEnd h) asks .lists) xs (left h p asks c) all rest
 
 -- ---- always

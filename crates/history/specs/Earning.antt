@@ -1,4 +1,4 @@
--- What a driver does with a paused guest: reset, DCHECKs until one answers 3, a new epoch, and each list exported to its end.
+-- What a driver does with a paused guest: reset, DCHECKs until one answers 3, a new epoch, and the lists exported, one after the other or in any other way.
 use mathlib.Core.Path.{_≡_}
 use mathlib.Core.Bool.{Bool, true, false, cond}
 use mathlib.Core.List.{List, [], _∷_, _++_, map, List·Memᴰ, List·Permᴰ}
@@ -171,3 +171,7 @@ took w x =
 abbrev pub tookAll : World → List Exporting → List ℕ
 tookAll w [] = []
 tookAll w (x ∷ l) = took w x ++ tookAll (after w (exporting x)) l
+
+-- every entry of some lists is among them
+abbrev pub TookEvery : World → List (List ℕ) → List Exporting → Type 0
+TookEvery w lists xs = (l : List ℕ) → List·Memᴰ l lists → (word : ℕ) → List·Memᴰ word l → List·Memᴰ word (tookAll w xs)

@@ -12,7 +12,7 @@ use Rattle.bundle.specs.Bundle.{Operation, migrate, cancel, remigrate, Sent, Or
 use Rattle.history.specs.History.{Given, given, accepted, newEffect, History, atEnd}
 use Rattle.table.specs.Table.{pageCount}
 use Rattle.session.specs.Formed.{busy, mostEntries}
-use Rattle.history.specs.Earning.{granted, Paused, Ask, Fair, Full, check, complete, mostLists, prepared, Sending, sendingAll, Plan, Exporting, exportingAll, tookAll}
+use Rattle.history.specs.Earning.{granted, Paused, Ask, Fair, Full, check, complete, mostLists, prepared, Sending, sendingAll, Plan, Exporting, exportingAll, TookEvery}
 
 -- whatever was there before
 abbrev pub before : Session
@@ -121,6 +121,6 @@ pub record Met : Type 0 where
   pub ended : complete (check (atEnd (moved new toPause)) asks .world) ≡ true
   pub plan : Plan (atEnd (moved new toPause)) (check (atEnd (moved new toPause)) asks .lists) sendings
   pub earned : granted (sendingAll (prepared (atEnd (moved new toPause)) asks) sendings) ≡ true
-  pub taken : (l : List ℕ) → List·Memᴰ l (check (atEnd (moved new toPause)) asks .lists) → (word : ℕ) → List·Memᴰ word l → List·Memᴰ word (tookAll (prepared (atEnd (moved new toPause)) asks) byTurns)
+  pub taken : TookEvery (prepared (atEnd (moved new toPause)) asks) (check (atEnd (moved new toPause)) asks .lists) byTurns
   pub rests : busy (exportingAll (prepared (atEnd (moved new toPause)) asks) byTurns .session) ≡ false
   pub anyhow : granted (exportingAll (prepared (atEnd (moved new toPause)) asks) byTurns) ≡ true

@@ -11,7 +11,7 @@ use Rattle.table.specs.Table.{pageCount, pageAt}
 use Rattle.session.specs.Formed.{busy, formed}
 use Rattle.bundle.specs.Bundle.{Holding, absent, holds, Sent, nothing, replay, Order, Once, Fits}
 use Rattle.history.specs.History.{World, History, atEnd}
-use Rattle.history.specs.Earning.{granted, Paused, Ask, Fair, Full, check, complete, mostLists, fullAsks, prepared, Sending, sendingAll, Plan, atOnce, Exporting, exportingAll, tookAll}
+use Rattle.history.specs.Earning.{granted, Paused, Ask, Fair, Full, check, complete, mostLists, fullAsks, prepared, Sending, sendingAll, Plan, atOnce, Exporting, exportingAll, TookEvery}
 
 -- what the table says of a page: a data page with its mark, a pending one with 0, or nothing
 abbrev pub contentOf : State → ℕ → Holding
@@ -81,4 +81,4 @@ pub record Earned : Type 0 where
   -- after a check that came to its end, whatever its rooms and budgets, its lists earn the token, in any order and with any budgets that come to their ends
   pub earned : (h : History) → Paused (atEnd h) → (asks : List Ask) → complete (check (atEnd h) asks .world) ≡ true → (xs : List Sending) → Plan (atEnd h) (check (atEnd h) asks .lists) xs → granted (sendingAll (prepared (atEnd h) asks) xs) ≡ true
   -- and so do any calls of export that took every entry of its lists and left no stream interrupted
-  pub anyhow : (h : History) → Paused (atEnd h) → (asks : List Ask) → complete (check (atEnd h) asks .world) ≡ true → (xs : List Exporting) → ((l : List ℕ) → List·Memᴰ l (check (atEnd h) asks .lists) → (word : ℕ) → List·Memᴰ word l → List·Memᴰ word (tookAll (prepared (atEnd h) asks) xs)) → busy (exportingAll (prepared (atEnd h) asks) xs .session) ≡ false → granted (exportingAll (prepared (atEnd h) asks) xs) ≡ true
+  pub anyhow : (h : History) → Paused (atEnd h) → (asks : List Ask) → complete (check (atEnd h) asks .world) ≡ true → (xs : List Exporting) → TookEvery (prepared (atEnd h) asks) (check (atEnd h) asks .lists) xs → busy (exportingAll (prepared (atEnd h) asks) xs .session) ≡ false → granted (exportingAll (prepared (atEnd h) asks) xs) ≡ true
