@@ -18,7 +18,7 @@ pub record Reordered (log l : List Sent) : Type 0 where
   pub every : (y : Sent) → List·Memᴰ y log → List·Memᴰ y l
   pub rising : Rising l
 
--- what the entries say of page i, in no order: `e` is the epoch of its last one, and `h` what that one gives
+-- what the entries say of page i, in no order: `e` is the epoch of its last one, and `h` what that one gives; 0 and absent where there is none
 pub record Past (i : ℕ) (log : List Sent) (e : ℕ) (h : Holding) : Type 0 where
   pub below : (y : Sent) → List·Memᴰ y log → y .page ≡ i → y .epoch ≤ e
   pub top : (y : Sent) → List·Memᴰ y log → y .page ≡ i → y .epoch ≡ e → madeBy y ≡ h

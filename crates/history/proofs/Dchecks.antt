@@ -88,13 +88,14 @@ ending-codes budget space code i n (inl x) = rw (x .code) (refl, refl)
 ending-codes budget space code i n (inr (inl x)) = rw (x .code) (refl, refl)
 ending-codes budget space code i n (inr (inr x)) = rw (x .code) (refl, refl)
 
--- a DCHECK from a place on comes to the end, or at least d pages further and not to the end
+-- at least d pages further, and not to the end
 pub record Further (d place n : ℕ) (a : ScanAnswer) : Type 0 where
   pub code : eqb (a .code) codes.checkComplete ≡ false
   pub incomplete : a .session .check .complete ≡ false
   pub far : place + d ≤ a .session .check .place
   pub inside : a .session .check .place < n
 
+-- a DCHECK from a place on comes to the end, or further
 abbrev pub GetsOn : ℕ → ℕ → ℕ → ScanAnswer → Type 0
 GetsOn d place n a = ((eqb (a .code) codes.checkComplete ≡ true) × (a .session .check .complete ≡ true)) ⊎ Further d place n a
 

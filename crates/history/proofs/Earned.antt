@@ -1,5 +1,5 @@
--- From a paused guest to the token: the check leaves each page ready, or due and listed; the lists, exported, leave each ready. With eight full lists and each of
--- them exported in one call there is always such a way.
+-- From a paused guest to the token: the check leaves each page ready, or due and listed; the lists, exported, leave each ready. Eight DCHECKs with
+-- rooms of 512, and each list exported in one call, are always such a way.
 use mathlib.Core.Path.{_≡_, refl, sym, ap, subst}
 use mathlib.Core.Logic.{⊎-elim}
 use mathlib.Core.Bool.{true, false}
@@ -12,8 +12,8 @@ use Rattle.table.specs.Table.{mostPages, pageCount}
 use Rattle.session.specs.Formed.{busy, mostEntries}
 use Rattle.session.proofs.FormedLaws.{formed-means}
 use Rattle.history.specs.History.{World, History, atEnd}
-use Rattle.history.specs.Earning.{granted, Paused, Ask, Full, check, complete, mostLists, fullAsks, prepared, Sending, Whole, sendingAll, Plan, atOnce, Exporting, exportingAll, TookEvery}
-use Rattle.history.specs.Promises.{All, Earned}
+use Rattle.history.specs.Earning.{granted, Paused, Ask, Full, All, check, complete, mostLists, fullAsks, prepared, Sending, Whole, sendingAll, Plan, atOnce, Exporting, exportingAll, TookEvery}
+use Rattle.history.specs.Promises.{Earned}
 use Rattle.history.proofs.Sound.{sound-end}
 use Rattle.history.proofs.Formed.{stays-formed, streams-end}
 use Rattle.history.proofs.Waiting.{Left}
@@ -70,7 +70,7 @@ always-earns h p =
 pub earned : Earned
 earned =
     record {
-      always = always-earns;
+      always = λ h p. (always-earns h p, check-few (atEnd h) (sound-end h) (stays-formed .formed h) p fullAsks (asks-full h));
       ends = λ h p asks fair n. check-ends (atEnd h) (sound-end h) (stays-formed .formed h) p asks fair n;
       eight = λ h p asks full n. check-eight (atEnd h) (sound-end h) (stays-formed .formed h) p asks full n;
       few = λ h p asks full. check-few (atEnd h) (sound-end h) (stays-formed .formed h) p asks full;

@@ -56,7 +56,7 @@ sent-step epoch l b at w v first h hl hb =
 
 -- ---- the entries in turn
 
-record Along (g : Ground) (log : List Sent) (first last : ℕ) (s : Standing) : Type 0 where
+record Logging (g : Ground) (log : List Sent) (first last : ℕ) (s : Standing) : Type 0 where
   orderly : Orderly (log ++ sentFrom (g .epoch) (s .list) (s .buffer) first (s .at .next - first))
   fine : Fine (clockOn g) (log ++ sentFrom (g .epoch) (s .list) (s .buffer) first (s .at .next - first)) (s .table)
   from : first ≤ s .at .next
@@ -65,9 +65,9 @@ record Along (g : Ground) (log : List Sent) (first last : ℕ) (s : Standing) : 
   size : g .pages ≡ pageCount (s .table)
 
 module _ (g : Ground) (moves : among moving (g .phase) ≡ true) (small : g .epoch < room) (log : List Sent) (first last : ℕ) where
-  along-step : (s : Standing) → s .at .next ≤ last → Along g log first last s → Along g log first last (stepped g s)
+  logging-step : (s : Standing) → s .at .next ≤ last → Logging g log first last s → Logging g log first last (stepped g s)
   unfolding stepped counted
-  along-step s h a =
+  logging-step s h a =
       let x = taking g s in
       let so : List Sent = log ++ sentFrom (g .epoch) (s .list) (s .buffer) first (s .at .next - first) in
       let more = one-more g s moves small (a .size) so (a .orderly) (a .fine) in
@@ -83,12 +83,12 @@ module _ (g : Ground) (moves : among moving (g .phase) ≡ true) (small : g .epo
         size = rw (step-length g s) (a .size);
       }
 
-  along-run : (budget : ℕ) (s : Standing) → Along g log first last s → Along g log first last (exportRun g last budget s)
+  logging-run : (budget : ℕ) (s : Standing) → Logging g log first last s → Logging g log first last (exportRun g last budget s)
   unfolding exportRun
-  along-run zero s a = a
-  along-run (suc budget) s a =
-      either (Along g log first last) (leb (s .at .next) last)
-      (λ e. along-run budget (stepped g s) (along-step s (leb-true _ _ e) a))
+  logging-run zero s a = a
+  logging-run (suc budget) s a =
+      either (Logging g log first last) (leb (s .at .next) last)
+      (λ e. logging-run budget (stepped g s) (logging-step s (leb-true _ _ e) a))
       (λ e. a)
 
 -- ---- how far an export came
@@ -166,16 +166,16 @@ module _ (w : World) (l b : List ℕ) (stream : ℕ) (resume : Bool) (info budge
   abbrev ran : Standing
   ran = exported s t l b stream info budget
 
-  ran-along : exportCode s (length t) (length l) (length b) stream resume (infoOf info) ≡ 0 → Along (groundOf s) (w .log) (infoOf info .first) (infoOf info .last) ran
+  ran-logging : exportCode s (length t) (length l) (length b) stream resume (infoOf info) ≡ 0 → Logging (groundOf s) (w .log) (infoOf info .first) (infoOf info .last) ran
   unfolding groundOf exportCode
-  ran-along e =
+  ran-logging e =
       let p = gate-open s (length t) moving (exportTests s (length l) (length b) stream resume (infoOf info)) refl e in
       let y = formed-means s (length t) (p .formed) in
       let moves : s .phase ≡ Idle → ⊥ = not-idle moving (s .phase) refl (p .comes) in
       let ready = export-ready s (length t) (length l) (length b) stream resume (infoOf info) e in
       let at : begunBy (runOf s stream) .next ≡ infoOf info .first = begins s (length t) (length l) (length b) stream resume (infoOf info) e in
       let none : infoOf info .first - infoOf info .first ≡ 0 = omega arith in
-      along-run (groundOf s) (p .comes) (epoch-fits s (length t) (p .formed) (p .comes)) (w .log) (infoOf info .first) (infoOf info .last) budget (standing (begunBy (runOf s stream)) t l b)
+      logging-run (groundOf s) (p .comes) (epoch-fits s (length t) (p .formed) (p .comes)) (w .log) (infoOf info .first) (infoOf info .last) budget (standing (begunBy (runOf s stream)) t l b)
       (record {
         orderly = rw (at, none, append-nil) o;
         fine = rw (at, none, append-nil) (rw (since-begun (s .phase) (w .log) moves) at f);
@@ -190,7 +190,7 @@ module _ (w : World) (l b : List ℕ) (stream : ℕ) (resume : Bool) (info budge
   ran-logged e =
       let p = gate-open s (length t) moving (exportTests s (length l) (length b) stream resume (infoOf info)) refl e in
       let moves : s .phase ≡ Idle → ⊥ = not-idle moving (s .phase) refl (p .comes) in
-      let a = ran-along e in
+      let a = ran-logging e in
       let more : List Sent = w .log ++ sentFrom (s .epoch) (ran .list) (ran .buffer) (infoOf info .first) (ran .at .next - infoOf info .first) in
       rw (ran-came s t l b stream resume info budget e) (
         a .orderly,

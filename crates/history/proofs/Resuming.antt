@@ -40,9 +40,9 @@ use Rattle.history.proofs.Waiting.{Listed, Short, Left}
 use Rattle.history.proofs.Ahead.{Ahead, Waits, waits-map, none-ahead, Along, call-along, run-far}
 
 -- a new call finds its stream at rest and begins with entry 0; a resumed one finds it interrupted at its own FIRST and LAST
-abbrev Stands : Bool → ℕ → ℕ → Run → Type 0
-Stands resume next last AtRest = (resume ≡ false) × (next ≡ 0)
-Stands resume next last (Interrupted first end errors pages) = (resume ≡ true) × (first ≡ next) × (end ≡ last)
+abbrev Finds : Bool → ℕ → ℕ → Run → Type 0
+Finds resume next last AtRest = (resume ≡ false) × (next ≡ 0)
+Finds resume next last (Interrupted first end errors pages) = (resume ≡ true) × (first ≡ next) × (end ≡ last)
 
 module _ (n stream entries : ℕ) (rest : List (List ℕ)) where
   -- before a call that goes on with entry `next`
@@ -54,7 +54,7 @@ module _ (n stream entries : ℕ) (rest : List (List ℕ)) where
     pub created : w .session .created ≡ n
     -- the other streams are at rest
     pub others : (i : ℕ) → i < streamPlaces → (i ≡ stream → ⊥) → runResting (getD (w .session .streams) i resting .run) ≡ true
-    pub run : Stands resume next (infoOf info .last) (runOf (w .session) stream)
+    pub run : Finds resume next (infoOf info .last) (runOf (w .session) stream)
     pub format : infoOf info .format ≡ 0
     pub zeros : infoOf info .zero52 ≡ 0
     pub first : infoOf info .first ≡ next
@@ -77,7 +77,7 @@ module _ (n stream entries : ℕ) (rest : List (List ℕ)) where
 
       -- ---- the call is accepted
 
-      stands : (r : Run) → Stands resume next (x .last) r → (noResumption resume r x ≡ false) × (noNewCall resume r ≡ false) × (notFrom0 resume x ≡ false)
+      stands : (r : Run) → Finds resume next (x .last) r → (noResumption resume r x ≡ false) × (noNewCall resume r ≡ false) × (notFrom0 resume x ≡ false)
       stands AtRest e = (rw (e .0), rw (e .0), rw (e .0, k .first, e .1))
       stands (Interrupted first end errors pages) e =
           (rw (e .0, eq-eqb (x .first) first (k .first ∙ sym (e .1)), eq-eqb (x .last) end (sym (e .2))), rw (e .0), rw (e .0))

@@ -52,28 +52,28 @@ ready-stays word p g r = taken-kept word p g (go (eqb (takenOf word p g .status)
 abbrev Settled : State → Bool → Type 0
 Settled z d = (rowOf z .strange ≡ false) × ((z ≡ Free) ⊎ (((z ≡ Exported) ⊎ (z ≡ PendingExported)) × (d ≡ false)))
 
-settles : (z : State) (d : Bool) → (listingOf z .barred || (listingOf z .sent && not d)) ≡ false → (not (listingOf z .cancelled) && d) ≡ false → rowOf z .blocked ≡ false → Settled (listingOf z .export) d
+export-settles : (z : State) (d : Bool) → (listingOf z .barred || (listingOf z .sent && not d)) ≡ false → (not (listingOf z .cancelled) && d) ≡ false → rowOf z .blocked ≡ false → Settled (listingOf z .export) d
 unfolding listingOf rowOf
-settles Free d a c u = absurd (true≢false a)
-settles Blocked d a c u = absurd (true≢false a)
-settles Pending d a c u = (refl, inr (inr refl, c))
-settles PendingBlocked d a c u = absurd (true≢false a)
-settles Mapped d a c u = (refl, inr (inl refl, c))
-settles Exported true a c u = absurd (true≢false c)
-settles Exported false a c u = absurd (true≢false a)
-settles ExportedModified d a c u = (refl, inr (inl refl, c))
-settles ExportedBlocked d a c u = absurd (true≢false u)
-settles ExportedRemoved d a c u = (refl, inl refl)
-settles PendingExported true a c u = absurd (true≢false c)
-settles PendingExported false a c u = absurd (true≢false a)
-settles PendingExportedModified d a c u = (refl, inr (inr refl, c))
-settles PendingExportedBlocked d a c u = absurd (true≢false u)
-settles Strange d a c u = absurd (true≢false a)
+export-settles Free d a c u = absurd (true≢false a)
+export-settles Blocked d a c u = absurd (true≢false a)
+export-settles Pending d a c u = (refl, inr (inr refl, c))
+export-settles PendingBlocked d a c u = absurd (true≢false a)
+export-settles Mapped d a c u = (refl, inr (inl refl, c))
+export-settles Exported true a c u = absurd (true≢false c)
+export-settles Exported false a c u = absurd (true≢false a)
+export-settles ExportedModified d a c u = (refl, inr (inl refl, c))
+export-settles ExportedBlocked d a c u = absurd (true≢false u)
+export-settles ExportedRemoved d a c u = (refl, inl refl)
+export-settles PendingExported true a c u = absurd (true≢false c)
+export-settles PendingExported false a c u = absurd (true≢false a)
+export-settles PendingExportedModified d a c u = (refl, inr (inr refl, c))
+export-settles PendingExportedBlocked d a c u = absurd (true≢false u)
+export-settles Strange d a c u = absurd (true≢false a)
 
 exported-ready : (p : Page) (epoch : ℕ) → Due p → Ready (exportedPage p (listingOf (p .state) .export) epoch)
 unfolding unexportable
 exported-ready p epoch d =
-    let x = settles (p .state) (p .dirty) (d .able) (d .clean) (d .unblocked) in
+    let x = export-settles (p .state) (p .dirty) (d .able) (d .clean) (d .unblocked) in
     record { known = x .0; settled = x .1 }
 
 -- an entry of any kind

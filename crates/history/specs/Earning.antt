@@ -48,6 +48,10 @@ pub record Full (pages : ℕ) (a : Ask) : Type 0 where
   pub room : length (a .list) ≡ mostEntries
   pub budget : pages ≤ a .budget
 
+-- every ask is of a kind
+abbrev pub All : (Ask → Type 0) → List Ask → Type 0
+All P asks = (a : Ask) → List·Memᴰ a asks → P a
+
 -- the entries that a DCHECK wrote, by the first and the last one that it answers with 1, 2 or 3; an empty list answers 511 and 0
 abbrev pub entriesOf : Effect → List ℕ
 entriesOf e =

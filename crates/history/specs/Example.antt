@@ -1,7 +1,7 @@
 -- A guest of four pages, moved while it runs: whatever the promises ask for is met by it.
 use mathlib.Core.Path.{_≡_}
 use mathlib.Core.Bool.{Bool, true, false}
-use mathlib.Core.List.{List, [], _∷_, _++_, List·Memᴰ}
+use mathlib.Core.List.{List, [], _∷_, _++_}
 use Prim.Native.Nat.{ℕ, _+_, _*_, _^_, _≤_}
 use lib.ListN.{length, replicate}
 use Rattle.session.specs.Session.{newSession}
@@ -12,7 +12,7 @@ use Rattle.bundle.specs.Bundle.{Operation, migrate, cancel, remigrate, Sent, Or
 use Rattle.history.specs.History.{Given, given, accepted, newEffect, History, atEnd}
 use Rattle.table.specs.Table.{pageCount}
 use Rattle.session.specs.Formed.{busy, mostEntries}
-use Rattle.history.specs.Earning.{granted, Paused, Ask, Fair, Full, check, complete, mostLists, prepared, Sending, sendingAll, Plan, Exporting, exportingAll, TookEvery}
+use Rattle.history.specs.Earning.{granted, Paused, Ask, Fair, Full, All, check, complete, mostLists, prepared, Sending, sendingAll, Plan, Exporting, exportingAll, TookEvery}
 
 -- whatever was there before
 abbrev pub before : Session
@@ -114,10 +114,10 @@ pub record Met : Type 0 where
   pub log : atEnd (moved new toToken) .log ≡ sent
   pub order : Order (atEnd (moved new toToken) .log) reordered
   pub stopped : Paused (atEnd (moved new toPause))
-  pub fair : (a : Ask) → List·Memᴰ a asks → Fair a
+  pub fair : All Fair asks
   pub enough : pageCount (atEnd (moved new toPause) .table) ≤ length asks
-  pub full : (a : Ask) → List·Memᴰ a asks → Full (pageCount (atEnd (moved new toPause) .table)) a
-  pub eight : length asks ≡ mostLists
+  pub full : All (Full (pageCount (atEnd (moved new toPause) .table))) asks
+  pub eight : length asks ≡ 8
   pub ended : complete (check (atEnd (moved new toPause)) asks .world) ≡ true
   pub plan : Plan (atEnd (moved new toPause)) (check (atEnd (moved new toPause)) asks .lists) sendings
   pub earned : granted (sendingAll (prepared (atEnd (moved new toPause)) asks) sendings) ≡ true

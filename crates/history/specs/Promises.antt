@@ -1,7 +1,7 @@
 -- Demand 3, over every history.
 use mathlib.Core.Path.{_≡_}
 use mathlib.Core.Bool.{true, false}
-use mathlib.Core.List.{List, _∷_, _++_, map, List·Memᴰ}
+use mathlib.Core.List.{List, _∷_, _++_, map}
 use Prim.Native.Nat.{ℕ, _≤_}
 use lib.ListN.{length}
 use Rattle.states.specs.declared.State.{State}
@@ -11,7 +11,7 @@ use Rattle.table.specs.Table.{pageCount, pageAt}
 use Rattle.session.specs.Formed.{busy, formed}
 use Rattle.bundle.specs.Bundle.{Holding, absent, holds, Sent, nothing, replay, Order, Once, Fits}
 use Rattle.history.specs.History.{World, History, atEnd}
-use Rattle.history.specs.Earning.{granted, Paused, Ask, Fair, Full, check, complete, mostLists, fullAsks, prepared, Sending, sendingAll, Plan, atOnce, Exporting, exportingAll, TookEvery}
+use Rattle.history.specs.Earning.{granted, Paused, Ask, Fair, Full, All, check, complete, mostLists, fullAsks, prepared, Sending, sendingAll, Plan, atOnce, Exporting, exportingAll, TookEvery}
 
 -- what the table says of a page: a data page with its mark, a pending one with 0, or nothing
 abbrev pub contentOf : State → ℕ → Holding
@@ -64,19 +64,15 @@ pub record EntriesFit : Type 0 where
 pub record StaysFormed : Type 0 where
   pub formed : (h : History) → formed (atEnd h .session) (length (atEnd h .table)) ≡ true
 
--- every ask is of a kind
-abbrev pub All : (Ask → Type 0) → List Ask → Type 0
-All P asks = (a : Ask) → List·Memᴰ a asks → P a
-
 -- from every paused state with streams at rest and the migration epoch below its limit
 pub record Earned : Type 0 where
   -- reset, check, one new epoch and at most eight lists always earn the token
-  pub always : (h : History) → Paused (atEnd h) → granted (sendingAll (prepared (atEnd h) fullAsks) (map atOnce (check (atEnd h) fullAsks .lists))) ≡ true
+  pub always : (h : History) → Paused (atEnd h) → (granted (sendingAll (prepared (atEnd h) fullAsks) (map atOnce (check (atEnd h) fullAsks .lists))) ≡ true) × (length (check (atEnd h) fullAsks .lists) ≤ mostLists)
   -- with rooms of 1 to 512 and budgets of at least 1, as many DCHECKs as there are pages come to the end
   pub ends : (h : History) → Paused (atEnd h) → (asks : List Ask) → All Fair asks → pageCount (atEnd h .table) ≤ length asks → complete (check (atEnd h) asks .world) ≡ true
   -- with rooms of 512 and budgets of at least the page count, eight do
   pub eight : (h : History) → Paused (atEnd h) → (asks : List Ask) → All (Full (pageCount (atEnd h .table))) asks → mostLists ≤ length asks → complete (check (atEnd h) asks .world) ≡ true
-  -- and give at most eight lists
+  -- and however many there are, they give at most eight lists
   pub few : (h : History) → Paused (atEnd h) → (asks : List Ask) → All (Full (pageCount (atEnd h .table))) asks → length (check (atEnd h) asks .lists) ≤ mostLists
   -- after a check that came to its end, whatever its rooms and budgets, its lists earn the token, in any order and with any budgets that come to their ends
   pub earned : (h : History) → Paused (atEnd h) → (asks : List Ask) → complete (check (atEnd h) asks .world) ≡ true → (xs : List Sending) → Plan (atEnd h) (check (atEnd h) asks .lists) xs → granted (sendingAll (prepared (atEnd h) asks) xs) ≡ true

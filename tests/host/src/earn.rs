@@ -39,12 +39,12 @@ fn expect(play: &mut Play, guest: &mut Guest, word: &'static str, code: u64) -> 
     }
 }
 
-/// DCHECKs to the end: the lists that are not empty.
+/// DCHECKs to the end, of which as many as there are pages are enough: the lists that are not empty.
 fn check(play: &mut Play, random: &mut Random, guest: &mut Guest, rooms: Rooms) -> Result<Vec<Vec<u64>>, Broken> {
     let pages = guest.session().pages;
     let most = MOST_ENTRIES as u64;
     let mut lists = Vec::new();
-    loop {
+    for _ in 0..pages {
         let (room, budget) = match rooms {
             Rooms::Full => (most, u64::MAX),
             Rooms::Any => {
@@ -61,9 +61,10 @@ fn check(play: &mut Play, random: &mut Random, guest: &mut Guest, rooms: Rooms) 
         match answer.code {
             CHECK_COMPLETE => return Ok(lists),
             INTERRUPTED | LIST_FULL => (),
-            _ => return Err(guest.broken("the check does not come to its end")),
+            _ => break,
         }
     }
+    Err(guest.broken("the check does not come to its end"))
 }
 
 /// A list that is being exported, and how far it has come.

@@ -24,7 +24,7 @@ fn at_every_token_the_replayed_log_gives_what_was_paused() {
 }
 
 #[test]
-fn from_every_paused_state_the_token_is_earned() {
+fn from_paused_states_the_token_is_earned() {
     let library = &mut Library::default();
     let seeds = SEEDS..SEEDS + SEEDS / 2;
     let play = stands(library, |play| seeds.clone().try_for_each(|seed| history(play, seed, true)));
