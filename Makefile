@@ -3,11 +3,10 @@
 
 # Proves and builds the library, and runs the driver on it.
 run:
-	.ci/need gcc gcc libc6-dev
 	rt staticlib chirpsteeple
 	mkdir -p target/c
-	gcc -std=c11 -O2 -Iinclude examples/driver.c target/staticlib/libchirpsteeple.a -o target/c/driver
-	target/c/driver
+	.ci/x86-64 gcc -std=c11 -O2 -Iinclude examples/driver.c target/staticlib/libchirpsteeple.a -o target/c/driver
+	.ci/x86-64 target/c/driver
 
 # The gate.
 test:

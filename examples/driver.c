@@ -8,15 +8,26 @@
  */
 #include "guest.h"
 
+/* Settings, to be changed here or for the compiler, as -DLIST=512; guest.h has PAGES. */
+#ifndef STREAMS
+#define STREAMS 3 /* created, 2 to 9; all but one are usable */
+#endif
+#ifndef LIST
+#define LIST 128 /* entries in a list, 1 to 512 */
+#endif
+#ifndef SCAN_BUDGET
+#define SCAN_BUDGET 500 /* pages in a call, so that a scan can be interrupted */
+#endif
+#ifndef EXPORT_BUDGET
+#define EXPORT_BUDGET 50 /* entries in a call, so that streams are interrupted */
+#endif
+
 enum {
-    STREAMS = 3,         /* created: two of them are usable */
     USABLE = STREAMS - 1,
-    LIST = 128,          /* entries in a list; the bench takes up to 512 */
-    SCAN_BUDGET = 500,   /* pages in a call, so that a scan can be interrupted */
-    EXPORT_BUDGET = 50,  /* entries in a call, so that streams are interrupted */
     GUEST_MOVES = 25,    /* of the guest, while a call on a stream is under way */
     LITTLE = 75,         /* pages left that a pause can bear */
     ROUNDS = 20,         /* a guest that writes faster than we send is paused all the same */
+    MAC_ENTRIES = 256,   /* whose MACs are in one buffer */
     STATUSES = 32
 };
 
@@ -129,11 +140,12 @@ static void step(struct driver *driver, uint64_t stream)
     operation->info = answer.info;
     if (!operation->running) {
         expect("errors that the export counted", answer.errors, operation->errors);
-        expect("buffers that the export counted", answer.buffers, 2 + operation->data);
+        uint64_t macs = (operation->entries + MAC_ENTRIES - 1) / MAC_ENTRIES;
+        expect("buffers that the export counted", answer.buffers, 1 + macs + operation->data);
     }
 }
 
-/* Exports all that was listed, on both streams by turns, while the guest works if it may. Returns how many entries were sent. */
+/* Exports all that was listed, on the usable streams by turns, while the guest works if it may. Returns how many entries were sent. */
 static size_t export_all(struct driver *driver, unsigned moves)
 {
     size_t before = driver->sent, next = 0;

@@ -4,7 +4,11 @@
 
 #include "must.h"
 
-enum { PAGES = 2000, WORKING_SET = 90, BLOCKED_AT_ONCE = 6 };
+#ifndef PAGES
+#define PAGES 2000 /* 1 to 4,096 */
+#endif
+
+enum { WORKING_SET = PAGES < 90 ? PAGES : 90, BLOCKED_AT_ONCE = 6 };
 
 struct page {
     enum { ABSENT, PENDING, PRESENT } kind;
@@ -84,10 +88,10 @@ static inline void guest_works(struct guest *guest, unsigned moves)
     }
 }
 
-/* The host wants some pages back: it blocks them, and has to wait for the next track. */
+/* The host wants some pages back, if it finds them: it blocks them, and has to wait for the next track. */
 static inline void host_blocks(struct guest *guest)
 {
-    while (guest->blocked_count < BLOCKED_AT_ONCE) {
+    for (unsigned looks = 0; looks < 100 && guest->blocked_count < BLOCKED_AT_ONCE; looks++) {
         uint64_t page = draw(guest, PAGES);
         if (guest->memory[page].kind == ABSENT || out_of_reach(guest, page))
             continue;
@@ -104,7 +108,8 @@ static inline void host_removes(struct guest *guest)
         must_be_done(chirp_remove(BENCH(guest), page), "remove");
         guest->memory[page] = (struct page){ABSENT, 0};
     }
-    must_be_done(chirp_unblock(BENCH(guest), guest->blocked[--guest->blocked_count]), "unblock");
+    if (guest->blocked_count > 0)
+        must_be_done(chirp_unblock(BENCH(guest), guest->blocked[--guest->blocked_count]), "unblock");
 }
 
 /* A guest that has run for a while: of ten pages seven are present, one is pending and two are free. */

@@ -64,12 +64,6 @@ static void first_round(struct bench *bench)
     silent(chirp_new_epoch(BENCH(bench)));
 }
 
-static void pause_and_check(struct bench *bench)
-{
-    silent(chirp_pause(BENCH(bench)));
-    expect("check", chirp_dcheck(BENCH(bench), LIST(bench), BUDGET).code, CHIRP_CHECK_COMPLETE);
-}
-
 static void page_numbers_for_addresses(void)
 {
     struct bench bench;
@@ -94,8 +88,9 @@ static void page_numbers_for_addresses(void)
     expect("errors", answer.errors, PAGES - 1);
     expect("entries sent", right, 1);
     printf("  The number lands in the entry's low bits: 1 is LEVEL 1, 4 is PENDING, 8 is STATE 1. PENDING and STATE are ignored on the way in, so 4\n"
-           "  and 8 speak of page 0 again, which has just been sent. Only page 0 was right, and by accident.\n");
-    pause_and_check(&bench);
+           "  and 8 speak of page 0 again, which has just been sent. Only page 0 was right, and by accident. The guest is paused and checked:\n");
+    told("pause", chirp_pause(BENCH(&bench)), CHIRP_DONE);
+    told("dcheck", chirp_dcheck(BENCH(&bench), LIST(&bench), BUDGET).code, CHIRP_CHECK_COMPLETE);
     chirp_token_answer token = chirp_start_token(BENCH(&bench));
     told("start token", token.code, CHIRP_UNEXPORTED_MEMORY_REMAINS);
     expect("page", token.page, 1);

@@ -252,8 +252,9 @@ chirp_token_answer chirp_start_token(uint8_t *session, size_t session_len, uint8
  *   hint 0: 2, 4.  hint 1: 25, 30, and 24, 29 with Dirty.  hint 2: 26, 31 (DSCAN alone).  hint 3: 27.
  * A listed 24 becomes 25, a listed 29 becomes 30; a listed page that is then in 2, 4, 25 or 30 gets Dirty 0 and stamp = TLB epoch. Nothing else in
  * the table changes: Cached stays, so track before you export. Every page visited costs 1 of the budget, listed or not.
- * In the answer, next counts from page 0 of the table, also for a scan that began at another page; past its last page it is the page count. First
- * and last are 0 and the written count less 1; 511 and 0 if nothing was written. Look at the code first: in a refusal first and last are both 0.
+ * In the answer, next counts from page 0 of the table, also for a scan that began at another page: past its last page it is first + count, so that a
+ * DSCAN of pages 10 to 14 answers 15, and of a DCHECK the page count. First and last are 0 and the written count less 1; 511 and 0 if nothing was
+ * written. Look at the code first: in a refusal first and last are both 0.
  */
 
 /*

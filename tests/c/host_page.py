@@ -1,7 +1,7 @@
 """Runs docs/HOST.md, from the repository's root: host_page.py ARCHIVE DIRECTORY. The last line is 'N passed, M failed'.
 
-The files that the page gives are written, and the commands of its sections on languages run one after the other, in a directory that is made to
-look like the root. The other commands make the archive or are whole runs of tests: of those it is only seen that the files that they name are there.
+The files that the page gives are written, and the commands of its sections on languages run one after the other, as on an x86-64 machine
+(.ci/x86-64), in a directory that is made to look like the root. The other commands make the archive or are whole runs of tests: of those it is only seen that the files that they name are there.
 """
 
 import os
@@ -12,6 +12,7 @@ from pathlib import Path
 
 LANGUAGES = ["C", "Rust", "Python"]
 SECONDS = 120
+AS_ON_X86_64 = Path(".ci/x86-64").resolve()
 
 # What a section has, in order: files in fences, commands, and what the last command printed.
 PIECE = re.compile(
@@ -36,7 +37,7 @@ class Page:
     def ends_well(self, command):
         """Runs a command; returns what it printed."""
         environment = dict(os.environ, PYTHONDONTWRITEBYTECODE="1")
-        run = subprocess.run(command, shell=True, cwd=self.directory, env=environment, text=True, timeout=SECONDS,
+        run = subprocess.run(f"{AS_ON_X86_64} {command}", shell=True, cwd=self.directory, env=environment, text=True, timeout=SECONDS,
                              stdout=subprocess.PIPE, stderr=subprocess.STDOUT)
         if run.returncode != 0:
             print(run.stdout)

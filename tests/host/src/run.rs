@@ -10,6 +10,17 @@ use chirpsteeple_tests::random::Random;
 /// As many seeds meet all that can be met.
 pub const SEEDS: u64 = 200;
 
+/// As many do so too, less often: where the library runs under an emulator, which `.ci/x86-64` tells, time is short.
+const SEEDS_EMULATED: u64 = 30;
+
+/// How many seeds the tests run with.
+pub fn seeds() -> u64 {
+    match std::env::var_os("CHIRPSTEEPLE_EMULATED") {
+        Some(_) => SEEDS_EMULATED,
+        None => SEEDS,
+    }
+}
+
 const LINES: usize = 2_000;
 const MIGRATIONS: usize = 6;
 const HANDED: usize = 100;

@@ -7,7 +7,7 @@ use host_tests::damage::{every_length, every_word_of_a_session};
 use host_tests::library::Library;
 use host_tests::lines::play;
 use host_tests::lists::lists_of_every_length;
-use host_tests::run::{run, SEEDS};
+use host_tests::run::{run, seeds, SEEDS};
 
 fn library_same(calls: impl FnOnce(&mut Comparison) -> Result<(), Difference>) -> Vec<String> {
     same(&mut Library::default(), 10, calls)
@@ -19,7 +19,8 @@ fn same_on_lines(lines: &str) {
 
 #[test]
 fn random_histories_and_every_code_of_every_call_among_them() {
-    let faults = library_same(|comparison| (0..SEEDS).try_for_each(|seed| run(comparison, seed)));
+    println!("with {} of {SEEDS} seeds", seeds());
+    let faults = library_same(|comparison| (0..seeds()).try_for_each(|seed| run(comparison, seed)));
     assert_eq!(faults, Vec::<String>::new());
 }
 

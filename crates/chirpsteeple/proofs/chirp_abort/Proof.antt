@@ -1,3 +1,4 @@
+-- The contract is that of `on_table`, for an abort.
 use borrow.Author.Needs.{needs}
 use Rattle.chirpsteeple.proofs.chirp_abort.Statement.{statement}
 use Rattle.chirpsteeple.proofs.chirp_abort.Tie as tie

@@ -1,3 +1,4 @@
+-- What is left is what `with_list` leaves; the answer is its numbers, as a scan has them.
 use borrow.Author.Needs.{needs}
 use Rattle.chirpsteeple.specs.Host.{scanAnswer}
 use mathlib.Core.Path.{ap, _∙_}

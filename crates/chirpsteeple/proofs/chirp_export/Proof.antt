@@ -1,3 +1,4 @@
+-- What is left is what `with_lists` leaves; the answer is its numbers, as an export has them.
 use borrow.Author.Needs.{needs}
 use Rattle.chirpsteeple.specs.Host.{exportAnswer}
 use mathlib.Core.Path.{ap}

@@ -1,3 +1,4 @@
+-- The contract is that of `sweeps::new`.
 use borrow.Author.Needs.{needs}
 use Rattle.chirpsteeple.proofs.chirp_new.Statement.{statement}
 use Rattle.chirpsteeple.proofs.chirp_new.Tie as tie

@@ -1,3 +1,4 @@
+-- The contract is that of `on_table`, for a pause.
 use borrow.Author.Needs.{needs}
 use Rattle.chirpsteeple.proofs.chirp_pause.Statement.{statement}
 use Rattle.chirpsteeple.proofs.chirp_pause.Tie as tie

@@ -1,3 +1,4 @@
+-- The contract is that of `on_table`, for a start.
 use borrow.Author.Needs.{needs}
 use Rattle.chirpsteeple.proofs.chirp_start.Statement.{statement}
 use Rattle.chirpsteeple.proofs.chirp_start.Tie as tie

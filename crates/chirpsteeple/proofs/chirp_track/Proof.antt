@@ -1,3 +1,4 @@
+-- The contract is that of `on_table`, for a track.
 use borrow.Author.Needs.{needs}
 use Rattle.chirpsteeple.proofs.chirp_track.Statement.{statement}
 use Rattle.chirpsteeple.proofs.chirp_track.Tie as tie

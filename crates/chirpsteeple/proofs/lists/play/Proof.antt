@@ -1,3 +1,4 @@
+-- The words that are read, given to the engine and written back are `played` on what the bytes mean: each callee's contract is a part of it. No length changes on the way.
 use borrow.Author.Needs.{needs}
 use Rattle.chirpsteeple.specs.Host.{played}
 use lib.ListN.{length}

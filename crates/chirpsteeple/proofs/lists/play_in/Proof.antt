@@ -1,3 +1,4 @@
+-- The room is cut to the words that table, list and buffer have, which are not more than there are; then the contract is that of `play`.
 use borrow.Author.Needs.{needs}
 use lib.Seq.{length-take-le}
 use Rattle.chirpsteeple.proofs.LayoutLaws.{table-whole, table-most, room-for}

@@ -1,3 +1,4 @@
+-- With room for the largest table and the longest lists the contract is that of `play_in`.
 use borrow.Author.Needs.{needs}
 use Rattle.chirpsteeple.proofs.lists.play_lists.Statement.{statement}
 use Rattle.chirpsteeple.proofs.lists.play_lists.Tie as tie

@@ -1,3 +1,4 @@
+-- A call with a list alone is one with lists whose buffer is empty: all that `with_lists` leaves but the buffer.
 use borrow.Author.Needs.{needs}
 use Rattle.chirpsteeple.proofs.lists.with_list.Statement.{statement}
 use Rattle.chirpsteeple.proofs.lists.with_list.Tie as tie

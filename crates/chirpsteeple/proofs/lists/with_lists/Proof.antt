@@ -1,3 +1,4 @@
+-- Bytes in their layouts are played (`host-played`, by `play_lists`); any others are refused with 40.
 use borrow.Author.Needs.{needs}
 use Rattle.wire.specs.Sessions.{sessionOf}
 use Rattle.chirpsteeple.specs.Host.{lentAll}

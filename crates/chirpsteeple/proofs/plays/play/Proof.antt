@@ -1,3 +1,4 @@
+-- `perform` on the decoded words; session and table are written back unless its code is a refusal, and then they are as they came.
 use borrow.Author.Needs.{needs}
 use Rattle.wire.specs.Bytes.{bytesOf}
 use mathlib.Core.Path.{sym, ap, _∙_}

@@ -1,3 +1,4 @@
+-- The bytes of the session's words, by `words_of` and `encode`.
 use borrow.Author.Needs.{needs}
 use mathlib.Core.Path.{ap, _∙_}
 use Rattle.wire.specs.Bytes.{bytesOf}

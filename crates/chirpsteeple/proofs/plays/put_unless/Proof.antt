@@ -1,3 +1,4 @@
+-- By the two cases of the code: a refusal leaves the bytes, any other puts the session there.
 use borrow.Author.Needs.{needs}
 use Rattle.refusals.proofs.Laws.{not-true, not-false}
 use mathlib.Core.Path.{sym, _∙_}

@@ -1,3 +1,4 @@
+-- By the two cases of the test: a list has an eighth of its bytes, and not more than 512; no list has 0.
 use borrow.Author.Needs.{needs}
 use Rattle.chirpsteeple.proofs.ListLaws.{list-room}
 use native.Mathlib.Omega.{arith}

@@ -1,3 +1,4 @@
+-- The test is the definition's, with the engine's `legal` in it.
 use borrow.Author.Needs.{needs}
 use Rattle.chirpsteeple.proofs.reads.is_table.Statement.{statement}
 use Rattle.chirpsteeple.proofs.reads.is_table.Tie as tie

@@ -1,3 +1,4 @@
+-- Of another length than a session's nothing is read; else the decoded words and the test of them are those of `readable`.
 use borrow.Author.Needs.{needs}
 use mathlib.Core.Path.{refl}
 use mathlib.Core.Bool.{false≢true}

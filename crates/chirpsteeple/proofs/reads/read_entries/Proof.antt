@@ -1,3 +1,4 @@
+-- By the two cases of the test: a list's words are decoded, and for no list the words are cleared. The lengths are counted alike.
 use borrow.Author.Needs.{needs}
 use lib.ListN.{length}
 use denote.Ref.{now}

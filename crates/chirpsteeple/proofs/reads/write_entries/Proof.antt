@@ -1,3 +1,4 @@
+-- By the two cases of the test: a list's words are encoded into bytes eight times as many, and no list stays as it is.
 use borrow.Author.Needs.{needs}
 use lib.ListN.{length}
 use denote.Ref.{now}

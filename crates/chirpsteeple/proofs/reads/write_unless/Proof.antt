@@ -1,3 +1,4 @@
+-- By the two cases: a refusal leaves the bytes, any other writes the entries.
 use borrow.Author.Needs.{needs}
 use Rattle.chirpsteeple.proofs.reads.write_unless.Statement.{statement}
 use Rattle.chirpsteeple.proofs.reads.write_unless.Tie as tie

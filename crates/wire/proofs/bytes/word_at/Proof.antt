@@ -1,3 +1,4 @@
+-- A word is its two halves, and a half is below 2^32.
 use borrow.Author.Needs.{needs}
 use Rattle.wire.specs.Bytes.{wordAt}
 use Rattle.wire.proofs.bytes.word_at.Statement.{statement}
