@@ -3,6 +3,8 @@
  *
  *   gcc -std=c11 -Iinclude examples/driver.c target/staticlib/libchirpsteeple.a -o driver && ./driver
  *
+ * On another processor than x86-64, .ci/x86-64 gcc .. and .ci/x86-64 ./driver.
+ *
  * Pre-copy rounds: scan, track, export, until a scan finds little. Then pause, check, the last lists, token. The exit status is 0 if the token
  * was granted and the destination has the guest's memory.
  */

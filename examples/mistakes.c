@@ -3,6 +3,8 @@
  *
  *   gcc -std=c11 -Iinclude examples/mistakes.c target/staticlib/libchirpsteeple.a -o mistakes && ./mistakes
  *
+ * On another processor than x86-64, .ci/x86-64 gcc .. and .ci/x86-64 ./mistakes.
+ *
  * The exit status is 0 if the bench answered as is told here.
  */
 #include "must.h"

@@ -1,4 +1,4 @@
--- From a pause to the grant the guest's memory is the copy that the pause took: its own calls are refused in Blackout and in Done, and only a pause and the
+-- From a pause to the grant the guest's memory is the copy that the pause took: the calls that change it are refused in Blackout and in Done, and only a pause and the
 -- token lead there.
 use mathlib.Core.Path.{_≡_, refl, sym, subst}
 use mathlib.Core.Bool.{Bool, true, cond, false≢true}

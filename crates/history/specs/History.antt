@@ -35,7 +35,7 @@ pub record World : Type 0 where
   pub table : List ℕ
   -- the successful entries since the last accepted start
   pub log : List Sent
-  -- what the guest has of each page, by its own calls
+  -- what the guest has of each page, by the calls on its memory
   pub memory : ℕ → Holding
   -- and what it had at the last accepted pause
   pub copy : ℕ → Holding
@@ -101,7 +101,7 @@ loggedBy (Dscan first count budget) w e = w .log
 loggedBy (Dcheck budget) w e = w .log
 loggedBy (Export stream resume info budget) w e = w .log ++ sentIn w info e
 
--- ---- the guest's memory, from its own calls that were accepted
+-- ---- the guest's memory, from the accepted calls on it: the guest's write and accept, the host's add and remove
 
 -- another holding at one page
 abbrev pub holding : (ℕ → Holding) → ℕ → Holding → ℕ → Holding

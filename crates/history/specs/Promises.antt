@@ -49,7 +49,7 @@ pub record Safe : Type 0 where
   -- the log as it was made is such an order
   pub order : (h : History) → Order (atEnd h .log) (atEnd h .log)
 
--- at any time the table's marks are the guest's true memory, by its own calls
+-- at any time the table's marks are the guest's true memory, by the calls on it
 pub record Remembers : Type 0 where
   pub marks : (h : History) (i : ℕ) → content (pageAt (atEnd h .table) i) ≡ atEnd h .memory i
 
