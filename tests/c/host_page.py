@@ -1,7 +1,8 @@
 """Runs docs/HOST.md, from the repository's root: host_page.py ARCHIVE DIRECTORY. The last line is 'N passed, M failed'.
 
 The files that the page gives are written, and the commands of its sections on languages run one after the other, as on an x86-64 machine
-(.ci/x86-64), in a directory that is made to look like the root. The other commands make the archive or are whole runs of tests: of those it is only seen that the files that they name are there.
+(.ci/x86-64), in a directory that is made to look like the root. The other commands make the archive or are whole runs of tests: of those it is
+only seen that the files that they name are there.
 """
 
 import os
