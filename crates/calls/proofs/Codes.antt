@@ -1,25 +1,19 @@
 -- Every code is one of a list of tests, or one that a scan or an export which ran gives, and all of these are document 01's.
 use mathlib.Core.Path.{_≡_, refl, ap, _∙_}
-use mathlib.Core.Bool.{true, not, _&&_}
+use mathlib.Core.Bool.{true, not}
 use mathlib.Core.List.{List, [], _∷_}
 use Prim.Native.Nat.{ℕ, _+_, _-_}
-use lib.Dec.{eqb}
 use lib.ListN.{length, replicate}
 use Rattle.words.specs.Codes as codes
 use Rattle.words.specs.Info.{infoOf}
 use Rattle.refusals.specs.Refusals.{Test, _gives_}
-use Rattle.refusals.proofs.Laws.{either, allCodes, first-all}
-use Rattle.states.specs.Rows.{rowOf}
-use Rattle.states.specs.declared.State.{State}
-use Rattle.page.specs.Page.{strange, tracked}
-use Rattle.page.specs.Moves.{settled, moveCode, leaveCode, writeStep, addStep, acceptStep, blockStep, unblockStep, removeStep, stepOf, turnOf}
-use Rattle.page.specs.Sweeps.{uncached, started, aborted, sweptWords}
-use Rattle.page.specs.declared.moves.Step.{Step}
-use Rattle.page.specs.declared.moves.Turn.{Turn}
-use Rattle.page.specs.declared.Page.{Page}
+use Rattle.refusals.proofs.Laws.{allCodes, first-all}
+use Rattle.page.specs.Page.{Page, onWords}
+use Rattle.page.specs.Moves.{moveTests}
+use Rattle.page.specs.Sweeps.{uncached, started, aborted}
 use Rattle.page.specs.declared.moves.Move.{Move}
 use Rattle.page.specs.declared.moves.Move.the-variants as move
-use Rattle.table.specs.Table.{legal, pageCount, wordsAt, pageAt, putAt, sweepOf}
+use Rattle.table.specs.Table.{legal, pageCount, pageAt, sweepOf}
 use Rattle.session.specs.Session.{guest, moving, newSession, withTlb, withEpoch, withPhase, withCheck, unchecked, begun}
 use Rattle.session.specs.Formed.{within, fewestCreated, mostCreated, gateTests, gated}
 use Rattle.session.specs.Outcome.{Outcome, answered, answeredBy}
@@ -27,7 +21,8 @@ use Rattle.session.proofs.Laws.{answered-either}
 use Rattle.session.specs.declared.Session.{Session}
 use Rattle.session.specs.declared.Phase.{Phase}
 use Rattle.session.specs.declared.Phase.the-variants as phase
-use Rattle.memory.specs.Memory.{newCode, newOut, pageTests, pageCode, pageTurn, onPage, writeOut, addOut, acceptOut, blockOut, unblockOut, removeOut, trackTests, trackCode, trackOut}
+use Rattle.memory.specs.Memory.{newCode, newOut, pageTests, onPage, writeOut, addOut, acceptOut, blockOut, unblockOut, removeOut, trackTests, trackCode, trackOut}
+use Rattle.memory.proofs.Laws.{page-code}
 use Rattle.migration.specs.Migration.{startCode, startOut, pauseCode, pauseOut, abortCode, abortOut, newEpochTests, newEpochCode, newEpochOut, resetCode, resetOut}
 use Rattle.migration.specs.Token.{tokenTests, tokenCode, tokenOut}
 use Rattle.migration.proofs.Laws.{token-number}
@@ -50,38 +45,19 @@ answered-named code s t s' t' h =
     answered-either (λ (o : Outcome). named (o .answer .code) ≡ true) code s t s' t' (λ e. h) (λ e. h)
 
 all-named : (f : Page → Page) (code : ℕ) (s s' : Session) (t : List ℕ) → named code ≡ true → named (answeredBy f code s s' t .answer .code) ≡ true
-all-named f code s s' t h = answered-named code s t s' (sweepOf (sweptWords f) (pageCount t) t) h
+all-named f code s s' t h = answered-named code s t s' (sweepOf (onWords f) t) h
 
-move-named : (to : State) → named (moveCode to) ≡ true
-unfolding moveCode
-move-named to = first-all named (rowOf to .strange gives codes.eptEntryStateIncorrect ∷ []) refl refl
-
-leave-named : (to : State) (stamp tlb : ℕ) → named (leaveCode to stamp tlb) ≡ true
-unfolding leaveCode
-leave-named to stamp tlb =
-    first-all named (rowOf to .strange gives codes.gpaRangeNotBlocked ∷ not (tracked stamp tlb) gives codes.tlbTrackingNotDone ∷ []) refl refl
-
-step-named : (m : Move) (p : Page) (tlb : ℕ) → named (stepOf m p tlb .code) ≡ true
-unfolding writeStep addStep acceptStep blockStep unblockStep removeStep settled
-step-named (move.Write mark) p tlb =
-    either (λ (x : Step). named (x .code) ≡ true) (rowOf (p .state) .writable) (λ e. refl)
-    (λ e. either (λ (x : Step). named (x .code) ≡ true) (rowOf (p .state) .landing && p .cached) (λ f. refl) (λ f. refl))
-step-named move.Add p tlb = move-named (rowOf (p .state) .add)
-step-named move.Accept p tlb = move-named (rowOf (p .state) .accept)
-step-named move.Block p tlb = move-named (rowOf (p .state) .block)
-step-named move.Unblock p tlb = leave-named (rowOf (p .state) .unblock) (p .stamp) tlb
-step-named move.Remove p tlb = leave-named (rowOf (p .state) .remove) (p .stamp) tlb
+moves-named : (m : Move) (p : Page) (tlb : ℕ) → allCodes named (moveTests m p tlb) ≡ true
+moves-named (move.Write mark) p tlb = refl
+moves-named move.Add p tlb = refl
+moves-named move.Accept p tlb = refl
+moves-named move.Block p tlb = refl
+moves-named move.Unblock p tlb = refl
+moves-named move.Remove p tlb = refl
 
 page-named : (m : Move) (s : Session) (t : List ℕ) (at : ℕ) → named (onPage m s t at .answer .code) ≡ true
-unfolding onPage pageTurn pageCode turnOf
 page-named m s t at =
-    let turn = pageTurn m s (length t) at (wordsAt t at) in
-    let code = pageCode m s (length t) at in
-    let h : named (turn .code) ≡ true
-    = either (λ (x : Turn). named (x .code) ≡ true) (eqb code 0)
-    (λ e. step-named m (pageAt t at) (s .tlb))
-    (λ e. first-all named (pageTests m s (length t) at) refl refl) in
-    answered-named (turn .code) s t s (putAt t at (turn .words)) h
+    rw (page-code m s t at) (first-all named (pageTests m s (length t) at (pageAt t at)) refl (moves-named m (pageAt t at) (s .tlb)))
 
 scans-named : OfScans named
 scans-named = record { done = refl; interrupted = refl; full = refl; complete = refl; blocked = refl }
@@ -100,7 +76,7 @@ module _ (s : Session) (t l b : List ℕ) where
   code-named Track = all-named uncached (trackCode s (length t)) s (withTlb s (s .tlb + 1)) t (gated-named s (length t) guest (trackTests s) refl)
   code-named Start = all-named started (startCode s t) s (begun s phase.Live 1) t (gated-named s (length t) (phase.Idle ∷ []) _ refl)
   code-named Pause = all-named uncached (pauseCode s t) s (withPhase s phase.Blackout) t (gated-named s (length t) (phase.Live ∷ []) _ refl)
-  code-named Abort = all-named aborted (abortCode s t) s (begun s phase.Idle 0) t (gated-named s (length t) moving [] refl)
+  code-named Abort = all-named aborted (abortCode s (length t)) s (begun s phase.Idle 0) t (gated-named s (length t) moving [] refl)
   code-named NewEpoch = answered-named (newEpochCode s (length t)) s t (withEpoch s (s .epoch + 1)) t (gated-named s (length t) moving (newEpochTests s) refl)
   code-named Reset = answered-named (resetCode s (length t)) s t (withCheck s unchecked) t (gated-named s (length t) moving [] refl)
   code-named StartToken = ap named (token-number (tokenCode s t) t) ∙ gated-named s (length t) (phase.Blackout ∷ []) (tokenTests s t) refl

@@ -6,38 +6,35 @@ use mathlib.Core.List.{List}
 use Prim.Native.Nat.{ℕ, _+_, _-_, _<_}
 use lib.Dec.{eqb, ltb}
 use lib.ListN.{length, replicate}
-use native.Mathlib.Nat.{le-refl}
 use borrow.Author.Tests.{eqb-true, eqb-false, ltb-true, ltb-false}
 use Rattle.words.specs.Codes as codes
 use Rattle.words.specs.Info.{infoOf}
 use Rattle.refusals.proofs.Laws.{not-true}
-use Rattle.page.specs.Page.{pageOf, strange}
-use Rattle.page.specs.Moves.{turnOf}
-use Rattle.page.specs.Sweeps.{uncached, started, aborted, sweptBy, unlessStrange, sweptWords}
-use Rattle.page.specs.declared.records.PageWords.{PageWords}
-use Rattle.page.specs.declared.moves.Turn.{Turn}
-use Rattle.page.specs.declared.Page.{Page}
+use Rattle.page.specs.Page.{Page, strange, onWords, unlessStrange}
+use Rattle.page.specs.Moves.{movedBy}
+use Rattle.page.specs.Sweeps.{uncached, started, aborted, sweptBy}
 use Rattle.page.specs.declared.sweeps.Sweep.{Sweep}
-use Rattle.page.proofs.MoveLaws.{strange-turn, strange-swept, sweep-becomes}
+use Rattle.page.proofs.Laws.{words-stay}
+use Rattle.page.proofs.MoveLaws.{swept-held}
 use Rattle.page.specs.declared.moves.Move.{Move}
 use Rattle.page.specs.declared.moves.Move.the-variants as move
 use Rattle.table.specs.Table.{pageCount, wordsAt, pageAt, putAt, sweepOf}
-use Rattle.table.proofs.Laws.{put-other, sweep-at, sweep-ahead, page-sweep}
+use Rattle.table.proofs.Laws.{put-other, put-back, sweep-at, sweep-past, page-swept}
 use Rattle.session.specs.Session.{newSession, withTlb, withEpoch, withPhase, withCheck, unchecked, begun}
 use Rattle.session.specs.Outcome.{Outcome, answered, answeredBy}
 use Rattle.session.proofs.Laws.{answered-either, answered-words}
 use Rattle.session.specs.declared.Session.{Session}
 use Rattle.session.specs.declared.Phase.the-variants as phase
-use Rattle.memory.specs.Memory.{newCode, newOut, pageCode, pageTurn, onPage, writeOut, addOut, acceptOut, blockOut, unblockOut, removeOut, trackCode, trackOut}
-use Rattle.memory.proofs.Laws.{page-done, page-other}
+use Rattle.memory.specs.Memory.{newCode, newOut, onPage, writeOut, addOut, acceptOut, blockOut, unblockOut, removeOut, trackCode, trackOut}
+use Rattle.memory.proofs.Laws.{page-either, page-done, page-other}
 use Rattle.migration.specs.Migration.{startCode, startOut, pauseCode, pauseOut, abortCode, abortOut, newEpochCode, newEpochOut, resetCode, resetOut}
-use Rattle.migration.specs.Token.{tokenNumber, tokenPage, tokenCode, inTheWay, tokenFor, tokenOut}
-use Rattle.migration.proofs.Laws.{token-number, token-page, new-epoch-table, reset-table}
+use Rattle.migration.specs.Token.{tokenSays, tokenCode, inTheWay, tokenOut}
+use Rattle.migration.proofs.Laws.{token-numbers, token-number, new-epoch-table, reset-table}
 use Rattle.scan.specs.Scan.{ScanOutcome, dscanOf, dcheckOf, checkedBy}
 use Rattle.scan.proofs.Outcomes.{OfScans, range-code, look-page, dscan-either, dscan-strange, dchecked, dcheck-either, dcheck-strange}
 use Rattle.scan.proofs.RangeLaws.{range-page}
 use Rattle.export.specs.Export.{ExportOutcome}
-use Rattle.export.proofs.Moves.{exported, step-page, step-other, export-either, export-strange, finished-code}
+use Rattle.export.proofs.Moves.{exported, step-page, step-failed, step-other, export-either, export-strange, finished-code}
 use Rattle.calls.specs.Calls.{effect, scanEffect, exportEffect, effectOf}
 use Rattle.calls.specs.Promises.{OneOutcome, refusal, Kept, RefusalKeeps, isNew, StrangeStays, PagesMove}
 use Rattle.calls.specs.declared.Call.{Call}
@@ -68,14 +65,13 @@ answered-keeps code s t s' t' =
     answered-either (λ (o : Outcome). refusal (o .answer .code) ≡ true → Returns o s t) code s t s' t' (λ e r. absurd (zero-no-refusal code e r)) (λ e r. (refl, refl))
 
 all-keeps : (f : Page → Page) (code : ℕ) (s s' : Session) (t : List ℕ) → refusal (answeredBy f code s s' t .answer .code) ≡ true → Returns (answeredBy f code s s' t) s t
-all-keeps f code s s' t = answered-keeps code s t s' (sweepOf (sweptWords f) (pageCount t) t)
+all-keeps f code s s' t = answered-keeps code s t s' (sweepOf (onWords f) t)
 
 page-keeps : (m : Move) (s : Session) (t : List ℕ) (at : ℕ) → refusal (onPage m s t at .answer .code) ≡ true → Returns (onPage m s t at) s t
 unfolding onPage
-page-keeps m s t at =
-    let turn = pageTurn m s (length t) at (wordsAt t at) in answered-keeps (turn .code) s t s (putAt t at (turn .words))
+page-keeps m s t at = answered-keeps _ s t s _
 
-token-keeps : (s : Session) (t : List ℕ) → refusal (tokenNumber (tokenOut s t .token)) ≡ true → tokenOut s t .session ≡ s
+token-keeps : (s : Session) (t : List ℕ) → refusal (tokenSays (tokenOut s t .token) .code) ≡ true → tokenOut s t .session ≡ s
 unfolding tokenOut
 token-keeps s t r = go (eqb (tokenCode s t) 0) refl
   where
@@ -83,11 +79,11 @@ token-keeps s t r = go (eqb (tokenCode s t) 0) refl
     go true e = absurd (zero-no-refusal (tokenCode s t) e (ap refusal (sym (token-number (tokenCode s t) t)) ∙ r))
     go false e = refl
 
-token-page-zero : (s : Session) (t : List ℕ) → eqb (tokenNumber (tokenOut s t .token)) codes.exportedDirtyPagesRemain ≡ false → eqb (tokenNumber (tokenOut s t .token)) codes.unexportedMemoryRemains ≡ false → tokenPage (tokenOut s t .token) ≡ 0
+token-page-zero : (s : Session) (t : List ℕ) → eqb (tokenSays (tokenOut s t .token) .code) codes.exportedDirtyPagesRemain ≡ false → eqb (tokenSays (tokenOut s t .token) .code) codes.unexportedMemoryRemains ≡ false → tokenSays (tokenOut s t .token) .page ≡ 0
 unfolding tokenOut inTheWay
 token-page-zero s t e f =
-    let n : tokenNumber (tokenFor (tokenCode s t) t) ≡ tokenCode s t = token-number (tokenCode s t) t in
-    token-page (tokenCode s t) t ∙ rw (rw n at e, rw n at f)
+    let n = token-numbers (tokenCode s t) t in
+    rw n (rw (rw n at e, rw n at f))
 
 -- a code that a call which ran can give
 abbrev ran : ℕ → Bool
@@ -120,10 +116,10 @@ module _ (s : Session) (t l b : List ℕ) where
   keeps Track r = plain-kept (trackOut s t) (all-keeps uncached (trackCode s (length t)) s (withTlb s (s .tlb + 1)) t r)
   keeps Start r = plain-kept (startOut s t) (all-keeps started (startCode s t) s (begun s phase.Live 1) t r)
   keeps Pause r = plain-kept (pauseOut s t) (all-keeps uncached (pauseCode s t) s (withPhase s phase.Blackout) t r)
-  keeps Abort r = plain-kept (abortOut s t) (all-keeps aborted (abortCode s t) s (begun s phase.Idle 0) t r)
+  keeps Abort r = plain-kept (abortOut s t) (all-keeps aborted (abortCode s (length t)) s (begun s phase.Idle 0) t r)
   keeps NewEpoch r = plain-kept (newEpochOut s t) (answered-keeps (newEpochCode s (length t)) s t (withEpoch s (s .epoch + 1)) t r)
   keeps Reset r = plain-kept (resetOut s t) (answered-keeps (resetCode s (length t)) s t (withCheck s unchecked) t r)
-  keeps StartToken r = as-came (tokenNumber (tokenOut s t .token)) (tokenPage (tokenOut s t .token)) (tokenOut s t .session) t (token-keeps s t r) refl
+  keeps StartToken r = as-came (tokenSays (tokenOut s t .token) .code) (tokenSays (tokenOut s t .token) .page) (tokenOut s t .session) t (token-keeps s t r) refl
   keeps (Dscan first count budget) r =
       dscan-either s t l first count budget (λ (o : ScanOutcome). refusal (o .answer .code) ≡ true → Kept s t l b (scanEffect o b))
       (λ e x. absurd (no-refusal _ (range-code ran scans-ran count (dscanOf s first budget) t l s) x))
@@ -164,38 +160,28 @@ refusal-keeps = record { all = λ c s t l b r. keeps s t l b c r; page = λ c s 
 
 -- ---- a strange record
 
-turn-strange : (m : Move) (s : Session) (len at : ℕ) (w : PageWords) → strange (pageOf w) ≡ true → eqb (pageTurn m s len at w .code) 0 ≡ false
-unfolding pageTurn
-turn-strange m s len at w e = go (eqb (pageCode m s len at) 0) refl
-  where
-    go : (b : Bool) → eqb (pageCode m s len at) 0 ≡ b → eqb (cond {A = Turn} b (turnOf m w (s .tlb)) (record { code = pageCode m s len at; words = w }) .code) 0 ≡ false
-    go true q = strange-turn m w (s .tlb) e
-    go false q = q
-
 page-strange : (m : Move) (s : Session) (t : List ℕ) (at i : ℕ) → strange (pageAt t i) ≡ true → wordsAt (onPage m s t at .table) i ≡ wordsAt t i
-unfolding onPage
-page-strange m s t at i e = answered-words (turn .code) s t s (putAt t at (turn .words)) i (go (eqb i at) refl)
+page-strange m s t at i e = page-either m s t at (λ (o : Outcome). wordsAt (o .table) i ≡ wordsAt t i) (λ d. go (eqb i at) refl) (λ q. refl)
   where
-    turn : Turn
-    turn = pageTurn m s (length t) at (wordsAt t at)
+    f : Page → Page
+    f = movedBy m (s .tlb)
 
-    go : (b : Bool) → eqb i at ≡ b → eqb (turn .code) 0 ≡ true → wordsAt (putAt t at (turn .words)) i ≡ wordsAt t i
-    go true q x =
-        let here : strange (pageAt t at) ≡ true = ap (λ (k : ℕ). strange (pageAt t k)) (sym (eqb-true i at q)) ∙ e in
-        absurd (true≢false (sym x ∙ turn-strange m s (length t) at (wordsAt t at) here))
-    go false q x = put-other t at i (turn .words) (eqb-false i at q)
+    go : (b : Bool) → eqb i at ≡ b → wordsAt (putAt t at (onWords f (wordsAt t at))) i ≡ wordsAt t i
+    go true q =
+        let same : i ≡ at = eqb-true i at q in
+        rw (same, words-stay f (wordsAt t at) (ap (λ (k : ℕ). strange (pageAt t k)) (sym same) ∙ e)) (put-back t at)
+    go false q = put-other t at i (onWords f (wordsAt t at)) (eqb-false i at q)
 
-sweep-strange : (f : Page → Page) (t : List ℕ) (i : ℕ) → strange (pageAt t i) ≡ true → wordsAt (sweepOf (sweptWords f) (pageCount t) t) i ≡ wordsAt t i
+sweep-strange : (f : Page → Page) (t : List ℕ) (i : ℕ) → strange (pageAt t i) ≡ true → wordsAt (sweepOf (onWords f) t) i ≡ wordsAt t i
 sweep-strange f t i e = go (ltb i (pageCount t)) refl
   where
-    go : (b : Bool) → ltb i (pageCount t) ≡ b → wordsAt (sweepOf (sweptWords f) (pageCount t) t) i ≡ wordsAt t i
-    go true q =
-        sweep-at (sweptWords f) t (pageCount t) i (le-refl (pageCount t)) (ltb-true i (pageCount t) q) ∙ strange-swept f (wordsAt t i) e
-    go false q = sweep-ahead (sweptWords f) t (pageCount t) i (ltb-false i (pageCount t) q)
+    go : (b : Bool) → ltb i (pageCount t) ≡ b → wordsAt (sweepOf (onWords f) t) i ≡ wordsAt t i
+    go true q = sweep-at (onWords f) t i (ltb-true i (pageCount t) q) ∙ words-stay f (wordsAt t i) e
+    go false q = sweep-past (onWords f) t i (ltb-false i (pageCount t) q)
 
 all-strange : (f : Page → Page) (code : ℕ) (s s' : Session) (t : List ℕ) (i : ℕ) → strange (pageAt t i) ≡ true → wordsAt (answeredBy f code s s' t .table) i ≡ wordsAt t i
 all-strange f code s s' t i e =
-    answered-words code s t s' (sweepOf (sweptWords f) (pageCount t) t) i (λ x. sweep-strange f t i e)
+    answered-words code s t s' (sweepOf (onWords f) t) i (λ x. sweep-strange f t i e)
 
 module _ (s : Session) (t l b : List ℕ) (i : ℕ) (e : strange (pageAt t i) ≡ true) where
   strange-words : (c : Call) → isNew c ≡ false → wordsAt (effectOf c s t l b .table) i ≡ wordsAt t i
@@ -210,7 +196,7 @@ module _ (s : Session) (t l b : List ℕ) (i : ℕ) (e : strange (pageAt t i) �
   strange-words Track n = all-strange uncached (trackCode s (length t)) s (withTlb s (s .tlb + 1)) t i e
   strange-words Start n = all-strange started (startCode s t) s (begun s phase.Live 1) t i e
   strange-words Pause n = all-strange uncached (pauseCode s t) s (withPhase s phase.Blackout) t i e
-  strange-words Abort n = all-strange aborted (abortCode s t) s (begun s phase.Idle 0) t i e
+  strange-words Abort n = all-strange aborted (abortCode s (length t)) s (begun s phase.Idle 0) t i e
   strange-words NewEpoch n = ap (λ (u : List ℕ). wordsAt u i) (new-epoch-table s t)
   strange-words Reset n = ap (λ (u : List ℕ). wordsAt u i) (reset-table s t)
   strange-words StartToken n = refl
@@ -225,7 +211,7 @@ strange-stays = record { words = λ c s t l b i n e. strange-words s t l b i e c
 
 sweep-done : (k : Sweep) (s s' : Session) (t : List ℕ) (i : ℕ) → i < pageCount t → pageAt (answeredBy (sweptBy k) 0 s s' t .table) i ≡ unlessStrange (sweptBy k) (pageAt t i)
 unfolding answered
-sweep-done k s s' t i h = page-sweep (sweptBy k) (sweep-becomes k) t i h
+sweep-done k s s' t i h = page-swept (sweptBy k) (swept-held k) t i h
 
 pub pages-move : PagesMove
-pages-move = record { one = page-done; others = page-other; all = sweep-done; entry = step-page; beside = step-other; range = range-page; look = look-page }
+pages-move = record { one = page-done; others = page-other; all = sweep-done; entry = step-page; failed = step-failed; beside = step-other; range = range-page; look = look-page }

@@ -6,7 +6,7 @@ use Rattle.session.specs.declared.Session.{Session}
 use Rattle.session.specs.declared.Answer.{Answer}
 use Rattle.memory.specs.Memory.{newOut, writeOut, addOut, acceptOut, blockOut, unblockOut, removeOut, trackOut}
 use Rattle.migration.specs.Migration.{startOut, pauseOut, abortOut, newEpochOut, resetOut}
-use Rattle.migration.specs.Token.{tokenOut, tokenNumber, tokenPage}
+use Rattle.migration.specs.Token.{tokenSays, tokenOut}
 use Rattle.migration.specs.declared.token.TokenAnswer.{TokenAnswer}
 use Rattle.scan.specs.Scan.{ScanOutcome, dscanOut, dcheckOut}
 use Rattle.scan.specs.declared.ScanAnswer.{ScanAnswer}
@@ -29,7 +29,7 @@ withoutNumbers a =
 
 abbrev pub tokenNumbers : TokenAnswer → Returned
 tokenNumbers a =
-    record { code = tokenNumber (a .token); page = tokenPage (a .token); next = 0; first = 0; last = 0; info = 0; errors = 0; buffers = 0; session = a .session }
+    record { code = tokenSays (a .token) .code; page = tokenSays (a .token) .page; next = 0; first = 0; last = 0; info = 0; errors = 0; buffers = 0; session = a .session }
 
 abbrev pub scanNumbers : ScanAnswer → Returned
 scanNumbers a =

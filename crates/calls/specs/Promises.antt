@@ -2,15 +2,15 @@
 use mathlib.Core.Path.{_≡_}
 use mathlib.Core.Bool.{Bool, true, false, _||_}
 use mathlib.Core.List.{List}
-use Prim.Native.Nat.{ℕ, _+_, _*_, _<_, _≤_}
+use Prim.Native.Nat.{ℕ, _+_, _*_, _^_, _<_, _≤_}
 use lib.ListN.{length}
 use lib.Dec.{eqb}
 use Rattle.words.specs.Codes as codes
-use Rattle.words.specs.Record.{room}
 use Rattle.page.specs.Page.{pageOf, strange}
-use Rattle.page.specs.Moves.{stepOf}
-use Rattle.page.specs.Sweeps.{sweptBy, unlessStrange}
-use Rattle.page.specs.declared.records.PageWords.{PageWords}
+use Rattle.page.specs.Moves.{movedBy}
+use Rattle.page.specs.Page.{unlessStrange}
+use Rattle.page.specs.Sweeps.{sweptBy}
+use Rattle.page.specs.declared.PageWords.{PageWords}
 use Rattle.page.specs.declared.moves.Move.{Move}
 use Rattle.page.specs.declared.sweeps.Sweep.{Sweep}
 use Rattle.table.specs.Table.{pageCount, wordsAt, pageAt}
@@ -21,8 +21,9 @@ use Rattle.memory.specs.Memory.{onPage}
 use Rattle.scan.specs.Look.{listedPage, lookOf, LookedAt}
 use Rattle.scan.specs.Scan.{rangeRun}
 use Rattle.scan.specs.declared.Scan.{Scan}
+use Rattle.entry.specs.Entry.{exportedPage}
 use Rattle.entry.specs.declared.Ground.{Ground}
-use Rattle.export.specs.Run.{Standing, placeOf, taking, stepped}
+use Rattle.export.specs.Run.{Standing, gpaOf, taking, stepped}
 use Rattle.calls.specs.Calls.{Effect, effectOf}
 use Rattle.calls.specs.declared.Call.{Call}
 use Rattle.calls.specs.declared.Call.the-variants.{New, Write, Add, Accept, Block, Unblock, Remove, Track, Start, Pause, Abort, NewEpoch, Reset, StartToken, Dscan, Dcheck, Export}
@@ -99,14 +100,15 @@ isNew (Export stream resume info budget) = false
 pub record StrangeStays : Type 0 where
   pub words : (c : Call) (s : Session) (t l b : List ℕ) (i : ℕ) → isNew c ≡ false → strange (pageAt t i) ≡ true → wordsAt (effectOf c s t l b .table) i ≡ wordsAt t i
 
--- a call that is done has moved its page, or every page, and no other; an entry moves the page that it names and no other; after a scan every page's words are as
+-- a call that is done has moved its page, or every page, and no other; an entry that succeeds moves the page that it names and no other, and one that fails none; after a scan every page's words are as
 -- they were or as the look that listed it left them, and those are the words of `listedPage`. Both epochs of a session that passes 40 are below 2 ^ 16, as a
 -- record's are; and past its tests a scan's range lies within the table (`dscan-fits`, `dcheck-fits` in `scan`).
 pub record PagesMove : Type 0 where
-  pub one : (m : Move) (s : Session) (t : List ℕ) (at : ℕ) → onPage m s t at .answer .code ≡ 0 → pageAt (onPage m s t at .table) at ≡ stepOf m (pageAt t at) (s .tlb) .page
+  pub one : (m : Move) (s : Session) (t : List ℕ) (at : ℕ) → onPage m s t at .answer .code ≡ 0 → pageAt (onPage m s t at .table) at ≡ movedBy m (s .tlb) (pageAt t at)
   pub others : (m : Move) (s : Session) (t : List ℕ) (at k : ℕ) → (k ≡ at → ⊥) → wordsAt (onPage m s t at .table) k ≡ wordsAt t k
   pub all : (k : Sweep) (s s' : Session) (t : List ℕ) (i : ℕ) → i < pageCount t → pageAt (answeredBy (sweptBy k) 0 s s' t .table) i ≡ unlessStrange (sweptBy k) (pageAt t i)
-  pub entry : (g : Ground) (x : Standing) → g .epoch < room → placeOf x < pageCount (x .table) → pageAt (stepped g x .table) (placeOf x) ≡ taking g x .page
-  pub beside : (g : Ground) (x : Standing) (k : ℕ) → (k ≡ placeOf x → ⊥) → wordsAt (stepped g x .table) k ≡ wordsAt (x .table) k
+  pub entry : (g : Ground) (x : Standing) → g .epoch < 2 ^ 16 → gpaOf x < pageCount (x .table) → taking g x .status ≡ 0 → pageAt (stepped g x .table) (gpaOf x) ≡ exportedPage (g .epoch) (pageAt (x .table) (gpaOf x))
+  pub failed : (g : Ground) (x : Standing) → (taking g x .status ≡ 0 → ⊥) → wordsAt (stepped g x .table) (gpaOf x) ≡ wordsAt (x .table) (gpaOf x)
+  pub beside : (g : Ground) (x : Standing) (k : ℕ) → (k ≡ gpaOf x → ⊥) → wordsAt (stepped g x .table) k ≡ wordsAt (x .table) k
   pub range : (count : ℕ) (scan : Scan) (t l : List ℕ) → 2 * scan .first + 2 * count ≤ length t → (k : ℕ) → LookedAt k (scan .tlb) (wordsAt t k) (wordsAt (rangeRun count scan t l .part) k)
-  pub look : (w : PageWords) (number tlb : ℕ) → tlb < room → pageOf (lookOf w number tlb .words) ≡ listedPage (pageOf w) tlb
+  pub look : (w : PageWords) (number tlb : ℕ) → tlb < 2 ^ 16 → pageOf (lookOf w number tlb .words) ≡ listedPage tlb (pageOf w)

@@ -1,5 +1,5 @@
 -- The calls on every page: with code 0 the bytes are those of the session and the table that the engine makes; with any other, they are as they came.
-use mathlib.Core.Path.{_≡_, refl, sym, ap, _∙_}
+use mathlib.Core.Path.{_≡_, refl}
 use mathlib.Core.Bool.{Bool, true, false, cond, not, true≢false, _&&_}
 use mathlib.Core.List.{List, []}
 use Prim.Native.Nat.{ℕ, _*_, _/_, _%_}
@@ -9,12 +9,11 @@ use lib.ListN.{length, replicate}
 use borrow.Author.Tests.{eqb-true}
 use Rattle.words.specs.Codes as codes
 use Rattle.refusals.proofs.Laws.{and-right}
-use Rattle.page.specs.Sweeps.{sweptBy, sweptWords}
-use Rattle.page.specs.declared.Page.{Page}
-use Rattle.table.specs.Table.{legal, pageCount, sweepOf}
-use Rattle.session.specs.Session.{newSession}
+use Rattle.page.specs.Page.{Page, onWords}
+use Rattle.page.specs.Sweeps.{sweptBy}
+use Rattle.table.specs.Table.{legal, sweepOf}
 use Rattle.session.specs.Formed.{within, fewestCreated, mostCreated}
-use Rattle.session.specs.Outcome.{Outcome, answeredBy, answered}
+use Rattle.session.specs.Outcome.{Outcome, answeredBy}
 use Rattle.session.specs.declared.Session.{Session}
 use Rattle.session.specs.declared.Answer.{Answer}
 use Rattle.session.proofs.Laws.{answered-either}
@@ -26,11 +25,11 @@ use Rattle.calls.specs.declared.Call.the-variants.{New}
 use Rattle.wire.specs.Bytes.{wordsOf, bytesOf, Bytes}
 use Rattle.wire.specs.Sessions.{sessionLength, sessionOf, sessionWords}
 use Rattle.wire.proofs.BytesLaws.{words-length, zero-bytes}
-use Rattle.chirpsteeple.specs.Host.{Left, lent, sessionBytes, isTable, readable, entriesOf, leaving, played, hostOf}
-use Rattle.chirpsteeple.specs.Inside.{sweepFor, sweepingOut, callSweeping}
+use Rattle.chirpsteeple.specs.Host.{Left, lent, sessionBytes, isTable, leaving, played, hostOf}
+use Rattle.chirpsteeple.specs.Inside.{readable, sweepFor, sweepingOut, callSweeping}
 use Rattle.chirpsteeple.specs.declared.sweeps.Sweeping.{Sweeping}
 use Rattle.chirpsteeple.specs.declared.sweeps.Sweeping.the-variants as sweeping
-use Rattle.chirpsteeple.proofs.LayoutLaws.{readable-means, table-whole, table-kept, session-kept, host-played, new-played}
+use Rattle.chirpsteeple.proofs.LayoutLaws.{readable-means, table-whole, table-kept, session-kept, host-left, host-played}
 use Rattle.chirpsteeple.proofs.TablesLaws.{either-kept}
 
 -- what is left is the answer's code and, where it is 0, its session in bytes and the table that was made
@@ -40,10 +39,10 @@ Leaves s t a made left =
     × ((cond (eqb (a .code) 0) (bytesOf (sessionWords (a .session))) s ≡ left .session)
     × (cond (eqb (a .code) 0) made t ≡ left .table))
 
-swept-left : (s t l b : List ℕ) (f : Page → Page) (code : ℕ) (next : Session) (a : Answer) → Bytes s → Bytes t → readable s (length t) ≡ true → a ≡ answeredBy f code (sessionOf (wordsOf s)) next (wordsOf t) .answer → Leaves s t a (bytesOf (sweepOf (sweptWords f) (pageCount (wordsOf t)) (wordsOf t))) (leaving true (effect (answeredBy f code (sessionOf (wordsOf s)) next (wordsOf t)) l b) (lent s t))
+swept-left : (s t l b : List ℕ) (f : Page → Page) (code : ℕ) (next : Session) (a : Answer) → Bytes s → Bytes t → readable s (length t) ≡ true → a ≡ answeredBy f code (sessionOf (wordsOf s)) next (wordsOf t) .answer → Leaves s t a (bytesOf (sweepOf (onWords f) (wordsOf t))) (leaving (effect (answeredBy f code (sessionOf (wordsOf s)) next (wordsOf t)) l b) (lent s t))
 swept-left s t l b f code next a x y e h =
     rw h
-    (answered-either (λ (o : Outcome). Leaves s t (o .answer) (bytesOf (sweepOf (sweptWords f) (pageCount (wordsOf t)) (wordsOf t))) (leaving true (effect o l b) (lent s t))) code _ _ _ _
+    (answered-either (λ (o : Outcome). Leaves s t (o .answer) (bytesOf (sweepOf (onWords f) (wordsOf t))) (leaving (effect o l b) (lent s t))) code _ _ _ _
     (λ z. rw (eqb-true code 0 z) (refl, (refl, refl)))
     (λ n. rw n (refl, (either-kept (refusal code) (session-kept s (length t) x e), either-kept (refusal code) (table-kept t y (readable-means s (length t) e .table))))))
 
@@ -59,12 +58,12 @@ pub sweeping-left :
     Bytes t →
     readable s (length t) ≡ true →
     a ≡ sweepingOut k (sessionOf (wordsOf s)) (wordsOf t) .answer →
-    Leaves s t a (bytesOf (sweepOf (sweptWords (sweptBy (sweepFor k))) (pageCount (wordsOf t)) (wordsOf t))) (hostOf true (callSweeping k) (lent s t))
+    Leaves s t a (bytesOf (sweepOf (onWords (sweptBy (sweepFor k))) (wordsOf t))) (hostOf (callSweeping k) (lent s t))
 unfolding played trackOut startOut pauseOut abortOut
-sweeping-left sweeping.Track s t a x y e h = rw (host-played true (callSweeping sweeping.Track) (lent s t) refl e) (swept-left s t (entriesOf true []) (entriesOf true []) _ _ _ a x y e h)
-sweeping-left sweeping.Start s t a x y e h = rw (host-played true (callSweeping sweeping.Start) (lent s t) refl e) (swept-left s t (entriesOf true []) (entriesOf true []) _ _ _ a x y e h)
-sweeping-left sweeping.Pause s t a x y e h = rw (host-played true (callSweeping sweeping.Pause) (lent s t) refl e) (swept-left s t (entriesOf true []) (entriesOf true []) _ _ _ a x y e h)
-sweeping-left sweeping.Abort s t a x y e h = rw (host-played true (callSweeping sweeping.Abort) (lent s t) refl e) (swept-left s t (entriesOf true []) (entriesOf true []) _ _ _ a x y e h)
+sweeping-left sweeping.Track s t a x y e h = rw (host-played (callSweeping sweeping.Track) (lent s t) refl e refl) (swept-left s t (wordsOf []) (wordsOf []) _ _ _ a x y e h)
+sweeping-left sweeping.Start s t a x y e h = rw (host-played (callSweeping sweeping.Start) (lent s t) refl e refl) (swept-left s t (wordsOf []) (wordsOf []) _ _ _ a x y e h)
+sweeping-left sweeping.Pause s t a x y e h = rw (host-played (callSweeping sweeping.Pause) (lent s t) refl e refl) (swept-left s t (wordsOf []) (wordsOf []) _ _ _ a x y e h)
+sweeping-left sweeping.Abort s t a x y e h = rw (host-played (callSweeping sweeping.Abort) (lent s t) refl e refl) (swept-left s t (wordsOf []) (wordsOf []) _ _ _ a x y e h)
 
 -- ---- New
 
@@ -88,12 +87,12 @@ pub new-left :
     (created : ℕ) (s t : List ℕ) (a : Answer) →
     (eqb (length s) sessionBytes && isTable (length t)) ≡ true →
     a ≡ newOut (sessionOf (replicate sessionLength 0)) (wordsOf t) created .answer →
-    Leaves s t a (replicate (length t) 0) (hostOf true (New created) (lent s t))
+    Leaves s t a (replicate (length t) 0) (hostOf (New created) (lent s t))
 unfolding played newOut
 new-left created s t a e h =
     let whole = table-whole (length t) (and-right (eqb (length s) sessionBytes) (isTable (length t)) e) in
     let code = newCode (length (wordsOf t)) created in
-    rw (h, new-played created (lent s t) e, ← cleared t whole)
-    (answered-either (λ (o : Outcome). Leaves s t (o .answer) (bytesOf (replicate (length (wordsOf t)) 0)) (leaving true (effect o (entriesOf true []) (entriesOf true [])) (lent s t))) code _ _ _ _
+    rw (h, host-left (New created) (lent s t) (rw e) refl, ← cleared t whole)
+    (answered-either (λ (o : Outcome). Leaves s t (o .answer) (bytesOf (replicate (length (wordsOf t)) 0)) (leaving (effect o (wordsOf []) (wordsOf [])) (lent s t))) code _ _ _ _
     (λ z. rw (eqb-true code 0 z) (refl, (refl, refl)))
     (λ n. rw (n, new-refuses (length (wordsOf t)) created n) (refl, (refl, refl))))

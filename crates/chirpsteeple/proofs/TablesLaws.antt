@@ -2,11 +2,11 @@
 use mathlib.Core.Path.{_≡_, refl, sym}
 use mathlib.Core.Bool.{Bool, true, false, cond}
 use mathlib.Core.List.{List}
-use Prim.Native.Nat.{ℕ, _%_}
+use Prim.Native.Nat.{ℕ}
 use lib.ListN.{length}
 use Rattle.session.specs.declared.Session.{Session}
 use Rattle.session.specs.declared.Answer.{Answer}
-use Rattle.migration.specs.Token.{tokenOut, tokenNumber, tokenPage}
+use Rattle.migration.specs.Token.{tokenSays, tokenOut}
 use Rattle.migration.specs.declared.token.TokenAnswer.{TokenAnswer}
 use Rattle.migration.proofs.Laws.{new-epoch-table, reset-table}
 use Rattle.calls.specs.Calls.{effect, effectOf}
@@ -14,9 +14,8 @@ use Rattle.calls.specs.Promises.{refusal, isNew}
 use Rattle.calls.specs.declared.Call.the-variants.{StartToken}
 use Rattle.wire.specs.Bytes.{wordsOf, bytesOf, Bytes}
 use Rattle.wire.specs.Sessions.{sessionOf, sessionWords}
-use Rattle.wire.proofs.BytesLaws.{bytes-back}
-use Rattle.chirpsteeple.specs.Host.{lent, readable, played, hostOf}
-use Rattle.chirpsteeple.specs.Inside.{callAlone, aloneOut}
+use Rattle.chirpsteeple.specs.Host.{lent, played, hostOf}
+use Rattle.chirpsteeple.specs.Inside.{readable, callAlone, aloneOut}
 use Rattle.chirpsteeple.specs.declared.tables.Alone.{Alone}
 use Rattle.chirpsteeple.specs.declared.tables.Alone.the-variants as alone
 use Rattle.chirpsteeple.proofs.LayoutLaws.{readable-means, table-kept, host-played}
@@ -45,25 +44,27 @@ pub alone-left :
     Bytes t →
     readable s (length t) ≡ true →
     a ≡ aloneOut k (sessionOf (wordsOf s)) (wordsOf t) .answer →
-    (a .code ≡ hostOf true (callAlone k) (lent s t) .answer .code)
-    × ((cond (refusal (a .code)) s (bytesOf (sessionWords (a .session))) ≡ hostOf true (callAlone k) (lent s t) .session)
-    × (t ≡ hostOf true (callAlone k) (lent s t) .table))
+    (a .code ≡ hostOf (callAlone k) (lent s t) .answer .code)
+    × ((cond (refusal (a .code)) s (bytesOf (sessionWords (a .session))) ≡ hostOf (callAlone k) (lent s t) .session)
+    × (t ≡ hostOf (callAlone k) (lent s t) .table))
 unfolding played
 alone-left k s t a y e h =
-    rw (h, host-played true (callAlone k) (lent s t) (alone-reads k) e, alone-effect k, alone-table k)
+    rw (h, host-played (callAlone k) (lent s t) (alone-reads k) e refl, alone-effect k, alone-table k)
     (refl, (refl, either-kept (refusal (aloneOut k (sessionOf (wordsOf s)) (wordsOf t) .answer .code)) (table-kept t y (readable-means s (length t) e .table))))
 
 -- ---- the start token
 
 pub token-left :
-    (x : Session) (s t : List ℕ) (a : TokenAnswer) (code page : ℕ) →
+    (s t : List ℕ) (a : TokenAnswer) (code page : ℕ) →
     Bytes t →
-    length t % 8 ≡ 0 →
-    a ≡ tokenOut x (wordsOf t) →
-    code ≡ tokenNumber (a .token) →
-    page ≡ tokenPage (a .token) →
-    (record { code = code; page = page; next = 0; first = 0; last = 0; info = 0; errors = 0; buffers = 0 } ≡ played true StartToken x (lent s t) .answer)
-    × ((cond (refusal code) s (bytesOf (sessionWords (a .session))) ≡ played true StartToken x (lent s t) .session)
-    × (t ≡ played true StartToken x (lent s t) .table))
+    readable s (length t) ≡ true →
+    a ≡ tokenOut (sessionOf (wordsOf s)) (wordsOf t) →
+    code ≡ tokenSays (a .token) .code →
+    page ≡ tokenSays (a .token) .page →
+    (record { code = code; page = page; next = 0; first = 0; last = 0; info = 0; errors = 0; buffers = 0 } ≡ hostOf StartToken (lent s t) .answer)
+    × ((cond (refusal code) s (bytesOf (sessionWords (a .session))) ≡ hostOf StartToken (lent s t) .session)
+    × (t ≡ hostOf StartToken (lent s t) .table))
 unfolding played
-token-left x s t a code page y e h n p = rw (n, p, h) (refl, (refl, either-kept (refusal (tokenNumber (tokenOut x (wordsOf t) .token))) (bytes-back t y e)))
+token-left s t a code page y e h n p =
+    rw (n, p, h, host-played StartToken (lent s t) refl e refl)
+    (refl, (refl, either-kept (refusal (tokenSays (tokenOut (sessionOf (wordsOf s)) (wordsOf t) .token) .code)) (table-kept t y (readable-means s (length t) e .table))))

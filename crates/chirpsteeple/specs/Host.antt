@@ -1,10 +1,11 @@
 -- The C side's calls: what the bytes that a caller lends mean, and what each call leaves in them. One definition for all seventeen, over `effectOf`.
-use mathlib.Core.Bool.{Bool, true, cond, _&&_}
-use mathlib.Core.List.{List, []}
-use Prim.Native.Nat.{ℕ, _+_, _*_, _/_, _%_}
+use mathlib.Core.Bool.{Bool, cond, not, _&&_, _||_}
+use mathlib.Core.List.{List, [], _∷_}
+use Prim.Native.Nat.{ℕ, _*_, _/_, _%_}
 use lib.Dec.{eqb, leb}
 use lib.ListN.{length, replicate}
 use Rattle.words.specs.Codes as codes
+use Rattle.refusals.specs.Refusals.{Test, _gives_, firstOf}
 use Rattle.table.specs.Table.{legal}
 use Rattle.session.specs.Formed.{mostEntries}
 use Rattle.session.specs.declared.Session.{Session}
@@ -20,21 +21,22 @@ use Rattle.chirpsteeple.specs.declared.ChirpScanAnswer.{ChirpScanAnswer}
 use Rattle.chirpsteeple.specs.declared.ChirpExportAnswer.{ChirpExportAnswer}
 use Rattle.chirpsteeple.specs.declared.plays.Numbers.{Numbers}
 
--- what a caller lends, in bytes; a call that takes no list or no buffer is lent none
+-- what a caller lends, in bytes, and an export's resume, which is a number in C; a call that takes no list or no buffer is lent none
 pub record Lent : Type 0 where
   pub session : List ℕ
   pub table : List ℕ
   pub list : List ℕ
   pub buffer : List ℕ
+  pub resume : ℕ
 
-abbrev pub lent : List ℕ → List ℕ → Lent
-lent s t = record { session = s; table = t; list = []; buffer = [] }
+abbrev pub lentAll : List ℕ → List ℕ → List ℕ → List ℕ → ℕ → Lent
+lentAll s t l b resume = record { session = s; table = t; list = l; buffer = b; resume = resume }
 
 abbrev pub lentList : List ℕ → List ℕ → List ℕ → Lent
-lentList s t l = record { session = s; table = t; list = l; buffer = [] }
+lentList s t l = lentAll s t l [] 0
 
-abbrev pub lentAll : List ℕ → List ℕ → List ℕ → List ℕ → Lent
-lentAll s t l b = record { session = s; table = t; list = l; buffer = b }
+abbrev pub lent : List ℕ → List ℕ → Lent
+lent s t = lentList s t []
 
 -- what a call leaves: its numbers, and the bytes
 pub record Left : Type 0 where
@@ -54,14 +56,12 @@ sessionBytes = 8 * sessionLength
 abbrev pub isTable : ℕ → Bool
 isTable len = eqb (len % 8) 0 && legal (len / 8)
 
--- session and table are in their layouts
-unfoldable pub readable : List ℕ → ℕ → Bool
-readable s len = eqb (length s) sessionBytes && isTable len && fits (wordsOf s)
+-- session and table are in their layouts; New reads no session, of which only the length must be right
+abbrev pub inLayout : Call → Lent → Bool
+inLayout c x =
+    eqb (length (x .session)) sessionBytes && isTable (length (x .table)) && (isNew c || fits (wordsOf (x .session)))
 
--- New reads no session, of which only the length must be right, and takes one of zeros
-abbrev pub accepted : Call → Lent → Bool
-accepted c x = cond (isNew c) (eqb (length (x .session)) sessionBytes && isTable (length (x .table))) (readable (x .session) (length (x .table)))
-
+-- New takes a session of zeros
 abbrev pub sessionRead : Call → List ℕ → Session
 sessionRead c s = sessionOf (cond (isNew c) (replicate sessionLength 0) (wordsOf s))
 
@@ -69,14 +69,9 @@ sessionRead c s = sessionOf (cond (isNew c) (replicate sessionLength 0) (wordsOf
 abbrev pub isList : ℕ → Bool
 isList len = eqb (len % 8) 0 && leb len (8 * mostEntries)
 
--- n zeros, not written out
-unfoldable pub zeros : ℕ → List ℕ
-zeros n = replicate n 0
-
--- bytes that are no list, or that stand beside an operand that is none (`sound` is false), are taken for a list of one word too many: each call that takes a
--- list refuses it with 42 in its place of the order, and a buffer of 513 is none for a list of at most 512
-abbrev pub entriesOf : Bool → List ℕ → List ℕ
-entriesOf sound b = cond (sound && isList (length b)) (wordsOf b) (zeros (mostEntries + 1))
+-- list and buffer are in whole words, 512 at most, and resume is 0 or 1
+abbrev pub inWords : Lent → Bool
+inWords x = isList (length (x .list)) && isList (length (x .buffer)) && leb (x .resume) 1
 
 -- ---- what a call leaves
 
@@ -102,91 +97,97 @@ numbersOf r =
       buffers = r .buffers;
     }
 
--- bytes after a call: as they were where it refused, else those that it made
+-- bytes after a call: as they were where it refused, else those of the words that it made
 abbrev pub unless : Returned → List ℕ → List ℕ → List ℕ
-unless r came made = cond (refusal (r .code)) came made
+unless r came made = cond (refusal (r .code)) came (bytesOf made)
 
--- the words of a list or a buffer, in bytes that are whole words
-abbrev pub entriesLeft : Bool → List ℕ → List ℕ → List ℕ
-entriesLeft sound b words = cond (sound && isList (length b)) (bytesOf words) b
-
--- the engine's numbers; and, unless it refused, the bytes of its session, table, list and buffer
-abbrev pub leaving : Bool → Effect → Lent → Left
-leaving sound e x =
+-- the engine's numbers, session, table, list and buffer
+abbrev pub leaving : Effect → Lent → Left
+leaving e x =
     let r = e .returned in
     record {
       answer = numbersOf r;
-      session = unless r (x .session) (bytesOf (sessionWords (r .session)));
-      table = unless r (x .table) (bytesOf (e .table));
-      list = unless r (x .list) (entriesLeft sound (x .list) (e .list));
-      buffer = unless r (x .buffer) (entriesLeft sound (x .buffer) (e .buffer));
+      session = unless r (x .session) (sessionWords (r .session));
+      table = unless r (x .table) (e .table);
+      list = unless r (x .list) (e .list);
+      buffer = unless r (x .buffer) (e .buffer);
     }
 
 -- the engine's call on what the bytes mean, the session being s
-unfoldable pub played : Bool → Call → Session → Lent → Left
-played sound c s x =
-    leaving sound (effectOf c s (wordsOf (x .table)) (entriesOf sound (x .list)) (entriesOf sound (x .buffer))) x
+unfoldable pub played : Call → Session → Lent → Left
+played c s x = leaving (effectOf c s (wordsOf (x .table)) (wordsOf (x .list)) (wordsOf (x .buffer))) x
 
--- 40 where session or table fit no layout
-unfoldable pub hostOf : Bool → Call → Lent → Left
-hostOf sound c x = cond (accepted c x) (played sound c (sessionRead c (x .session)) x) (refused codes.malformed x)
+-- 40: session or table in no layout; 40 and 41 as the engine gives them; then, before the engine's other codes, 42: list, buffer or resume
+abbrev pub hostTests : Call → Lent → ℕ → List Test
+hostTests c x engine =
+    not (inLayout c x) gives codes.malformed
+    ∷ eqb engine codes.malformed gives codes.malformed
+    ∷ eqb engine codes.opStateIncorrect gives codes.opStateIncorrect
+    ∷ not (inWords x) gives codes.operandInvalid
+    ∷ []
+
+-- nothing is touched where one of these holds; else it is the engine's call
+unfoldable pub hostOf : Call → Lent → Left
+hostOf c x =
+    let left = played c (sessionRead c (x .session)) x in
+    let code = firstOf (hostTests c x (left .answer .code)) in
+    cond (eqb code codes.done) left (refused code x)
 
 -- ---- the seventeen functions, on session and table
 
 abbrev pub newLeft : List ℕ → List ℕ → ℕ → Left
-newLeft s t streams = hostOf true (New streams) (lent s t)
+newLeft s t streams = hostOf (New streams) (lent s t)
 
 abbrev pub writeLeft : List ℕ → List ℕ → ℕ → ℕ → Left
-writeLeft s t page mark = hostOf true (Write page mark) (lent s t)
+writeLeft s t page mark = hostOf (Write page mark) (lent s t)
 
 abbrev pub addLeft : List ℕ → List ℕ → ℕ → Left
-addLeft s t page = hostOf true (Add page) (lent s t)
+addLeft s t page = hostOf (Add page) (lent s t)
 
 abbrev pub acceptLeft : List ℕ → List ℕ → ℕ → Left
-acceptLeft s t page = hostOf true (Accept page) (lent s t)
+acceptLeft s t page = hostOf (Accept page) (lent s t)
 
 abbrev pub blockLeft : List ℕ → List ℕ → ℕ → Left
-blockLeft s t page = hostOf true (Block page) (lent s t)
+blockLeft s t page = hostOf (Block page) (lent s t)
 
 abbrev pub unblockLeft : List ℕ → List ℕ → ℕ → Left
-unblockLeft s t page = hostOf true (Unblock page) (lent s t)
+unblockLeft s t page = hostOf (Unblock page) (lent s t)
 
 abbrev pub removeLeft : List ℕ → List ℕ → ℕ → Left
-removeLeft s t page = hostOf true (Remove page) (lent s t)
+removeLeft s t page = hostOf (Remove page) (lent s t)
 
 abbrev pub trackLeft : List ℕ → List ℕ → Left
-trackLeft s t = hostOf true Track (lent s t)
+trackLeft s t = hostOf Track (lent s t)
 
 abbrev pub startLeft : List ℕ → List ℕ → Left
-startLeft s t = hostOf true Start (lent s t)
+startLeft s t = hostOf Start (lent s t)
 
 abbrev pub pauseLeft : List ℕ → List ℕ → Left
-pauseLeft s t = hostOf true Pause (lent s t)
+pauseLeft s t = hostOf Pause (lent s t)
 
 abbrev pub abortLeft : List ℕ → List ℕ → Left
-abortLeft s t = hostOf true Abort (lent s t)
+abortLeft s t = hostOf Abort (lent s t)
 
 abbrev pub newEpochLeft : List ℕ → List ℕ → Left
-newEpochLeft s t = hostOf true NewEpoch (lent s t)
+newEpochLeft s t = hostOf NewEpoch (lent s t)
 
 abbrev pub resetLeft : List ℕ → List ℕ → Left
-resetLeft s t = hostOf true Reset (lent s t)
+resetLeft s t = hostOf Reset (lent s t)
 
 abbrev pub tokenLeft : List ℕ → List ℕ → Left
-tokenLeft s t = hostOf true StartToken (lent s t)
+tokenLeft s t = hostOf StartToken (lent s t)
 
 -- ---- and on a list, and a buffer
 
 abbrev pub dscanLeft : List ℕ → List ℕ → ℕ → ℕ → List ℕ → ℕ → Left
-dscanLeft s t first count l budget = hostOf true (Dscan first count budget) (lentList s t l)
+dscanLeft s t first count l budget = hostOf (Dscan first count budget) (lentList s t l)
 
 abbrev pub dcheckLeft : List ℕ → List ℕ → List ℕ → ℕ → Left
-dcheckLeft s t l budget = hostOf true (Dcheck budget) (lentList s t l)
+dcheckLeft s t l budget = hostOf (Dcheck budget) (lentList s t l)
 
--- resume is 0 or 1; above 1 is 42 with the first group of 42 tests
 abbrev pub exportLeft : List ℕ → List ℕ → List ℕ → List ℕ → ℕ → ℕ → ℕ → ℕ → Left
 exportLeft s t l b stream resume info budget =
-    hostOf (leb resume 1) (Export stream (eqb resume 1) info budget) (lentAll s t l b)
+    hostOf (Export stream (eqb resume 1) info budget) (lentAll s t l b resume)
 
 -- ---- what C gets of the numbers
 

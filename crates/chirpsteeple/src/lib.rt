@@ -8,6 +8,7 @@ use crate::sweeps::Sweeping;
 use crate::tables::Alone;
 use calls::Call;
 use page::moves::Move;
+use session::When;
 
 mod lists;
 mod pages;
@@ -205,7 +206,7 @@ pub extern "C" fn chirp_dscan(
         count: count as usize,
         budget: budget as usize,
     };
-    scan_answer(lists::with_list(call, session, table, list))
+    scan_answer(lists::with_list(When::Live, call, session, table, list))
 }
 
 #[no_mangle]
@@ -223,7 +224,7 @@ pub extern "C" fn chirp_dcheck(
     let call = Call::Dcheck {
         budget: budget as usize,
     };
-    scan_answer(lists::with_list(call, session, table, list))
+    scan_answer(lists::with_list(When::Blackout, call, session, table, list))
 }
 
 #[no_mangle]
@@ -249,7 +250,7 @@ pub extern "C" fn chirp_export(
         info,
         budget,
     };
-    let n = lists::with_lists(resume <= 1, call, session, table, list, buffer);
+    let n = lists::with_lists(When::Moving, call, session, table, list, buffer, resume);
     ChirpExportAnswer {
         code: n.code,
         info: n.info,

@@ -97,8 +97,8 @@ pub fn play(
 ) -> Returned
     requires { ⌜ (length (now session) ≡ sessionBytes) × (length (now table) % 8 ≡ 0) × (length (now words) ≡ length (now table) / 8) ⌝ }
     ensures { λ r. ⌜ r ≡ effectOf call s (wordsOf (now (table .entry))) (now (list .entry)) (now (buffer .entry)) .returned ⌝ }
-    ensures { λ r. ⌜ now (session .exit) ≡ unless r (now (session .entry)) (bytesOf (sessionWords (r .session))) ⌝ }
-    ensures { λ r. ⌜ now (table .exit) ≡ unless r (now (table .entry)) (bytesOf (effectOf call s (wordsOf (now (table .entry))) (now (list .entry)) (now (buffer .entry)) .table)) ⌝ }
+    ensures { λ r. ⌜ now (session .exit) ≡ unless r (now (session .entry)) (sessionWords (r .session)) ⌝ }
+    ensures { λ r. ⌜ now (table .exit) ≡ unless r (now (table .entry)) (effectOf call s (wordsOf (now (table .entry))) (now (list .entry)) (now (buffer .entry)) .table) ⌝ }
     ensures { λ _. ⌜ now (list .exit) ≡ effectOf call s (wordsOf (now (table .entry))) (now (list .entry)) (now (buffer .entry)) .list ⌝ }
     ensures { λ _. ⌜ now (buffer .exit) ≡ effectOf call s (wordsOf (now (table .entry))) (now (list .entry)) (now (buffer .entry)) .buffer ⌝ }
 {

@@ -1,13 +1,13 @@
 // What the lent bytes mean: session and table in their layouts, lists and buffers as words.
 ghost use mathlib.Core.Path.{_≡_};
-ghost use mathlib.Core.Bool.{true, cond, _&&_};
-ghost use Prim.Native.Nat.{_+_, _≤_};
+ghost use mathlib.Core.Bool.{true, cond};
+ghost use Prim.Native.Nat.{_*_};
 ghost use lib.ListN.{length};
-ghost use Rattle.session.specs.Formed.{mostEntries};
-ghost use Rattle.wire.specs.Bytes.{wordsOf};
-ghost use Rattle.wire.specs.Sessions.{sessionLength};
-ghost use Rattle.chirpsteeple.specs.Host.{isTable, readable, isList, entriesOf, entriesLeft};
-ghost use Rattle.chirpsteeple.specs.Inside.{entryCount};
+ghost use Rattle.wire.specs.Bytes.{wordsOf, bytesOf};
+ghost use Rattle.wire.specs.Sessions.{sessionLength, sessionOf};
+ghost use Rattle.chirpsteeple.specs.Host.{isTable, isList};
+ghost use Rattle.chirpsteeple.specs.Inside.{readable};
+use session::Session;
 use session::streams::MOST_ENTRIES;
 use wire::bytes;
 use wire::sessions;
@@ -22,7 +22,7 @@ pub fn is_table(len: usize) -> bool
 }
 
 // Session and table are in their layouts; then the session's words are there.
-pub fn read(session: &[u8], len: usize, words: &mut [u64]) -> bool
+fn read_words(session: &[u8], len: usize, words: &mut [u64]) -> bool
     requires { ⌜ length (now words) ≡ sessionLength ⌝ }
     ensures { λ r. ⌜ r ≡ readable (now (session .entry)) len ⌝ }
     ensures { λ r. ⌜ (r ≡ true → now (words .exit) ≡ wordsOf (now (session .entry))) ⌝ }
@@ -36,55 +36,39 @@ pub fn read(session: &[u8], len: usize, words: &mut [u64]) -> bool
     table & fits
 }
 
+// Whether session and table are in their layouts, and if they are, the session.
+pub struct Found {
+    pub fits: bool,
+    pub session: Session,
+}
+
+pub fn read(session: &[u8], len: usize) -> Found
+    ensures { λ r. ⌜ r .fits ≡ readable (now (session .entry)) len ⌝ }
+    ensures { λ r. ⌜ (r .fits ≡ true → r .session ≡ sessionOf (wordsOf (now (session .entry)))) ⌝ }
+{
+    let mut room = [0u64; sessions::SESSION_WORDS];
+    let words: &mut [u64] = &mut room;
+    let fits = read_words(session, len, words);
+    let s = sessions::session_of(&words[..]);
+    Found { fits, session: s }
+}
+
 // ---- lists and buffers
 
-pub fn is_list(sound: bool, len: usize) -> bool
-    ensures { λ r. ⌜ r ≡ (sound && isList len) ⌝ }
+// Whole words, 512 at most.
+pub fn is_list(len: usize) -> bool
+    ensures { λ r. ⌜ r ≡ isList len ⌝ }
 {
-    sound & ((len % 8 == 0) & (len <= 8 * MOST_ENTRIES))
+    (len % 8 == 0) & (len <= 8 * MOST_ENTRIES)
 }
 
-// What is no list is taken for one of so many words.
-pub const MOST_TAKEN: usize = MOST_ENTRIES + 1;
-
-// How many words the bytes are taken for.
-pub fn entry_count(sound: bool, len: usize) -> usize
-    ensures { λ r. ⌜ r ≡ entryCount sound len ⌝ }
-    ensures { λ r. ⌜ r ≤ mostEntries + 1 ⌝ }
-{
-    if is_list(sound, len) {
-        return len / 8;
-    }
-    MOST_TAKEN
-}
-
-pub fn read_entries(sound: bool, b: &[u8], entries: &mut [u64])
-    requires { ⌜ length (now entries) ≡ entryCount sound (length (now b)) ⌝ }
-    ensures { λ _. ⌜ now (entries .exit) ≡ entriesOf sound (now (b .entry)) ⌝ }
-{
-    if is_list(sound, b.len()) {
-        bytes::decode(b, entries);
-    } else {
-        table::clear(entries);
-    }
-}
-
-fn write_entries(sound: bool, entries: &[u64], b: &mut [u8])
-    requires { ⌜ length (now entries) ≡ entryCount sound (length (now b)) ⌝ }
-    ensures { λ _. ⌜ now (b .exit) ≡ entriesLeft sound (now (b .entry)) (now (entries .entry)) ⌝ }
-{
-    if is_list(sound, b.len()) {
-        bytes::encode(entries, b);
-    }
-}
-
-// The entries that a call made, unless it refused.
-pub fn write_unless(refused: bool, sound: bool, entries: &[u64], b: &mut [u8])
-    requires { ⌜ length (now entries) ≡ entryCount sound (length (now b)) ⌝ }
-    ensures { λ _. ⌜ now (b .exit) ≡ cond refused (now (b .entry)) (entriesLeft sound (now (b .entry)) (now (entries .entry))) ⌝ }
+// The words that a call made, unless it refused.
+pub fn write_unless(refused: bool, words: &[u64], b: &mut [u8])
+    requires { ⌜ length (now b) ≡ 8 * length (now words) ⌝ }
+    ensures { λ _. ⌜ now (b .exit) ≡ cond refused (now (b .entry)) (bytesOf (now (words .entry))) ⌝ }
 {
     if refused {
         return;
     }
-    write_entries(sound, entries, b);
+    bytes::encode(words, b);
 }

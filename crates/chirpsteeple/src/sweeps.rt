@@ -76,15 +76,13 @@ fn answer_of(k: Sweeping, s: Session, table: &[u8]) -> Answer
 }
 
 pub fn on_table(k: Sweeping, session: &mut [u8], table: &mut [u8]) -> u64
-    ensures { λ r. ⌜ r ≡ hostOf true (callSweeping k) (lent (now (session .entry)) (now (table .entry))) .answer .code ⌝ }
-    ensures { λ _. ⌜ now (session .exit) ≡ hostOf true (callSweeping k) (lent (now (session .entry)) (now (table .entry))) .session ⌝ }
-    ensures { λ _. ⌜ now (table .exit) ≡ hostOf true (callSweeping k) (lent (now (session .entry)) (now (table .entry))) .table ⌝ }
+    ensures { λ r. ⌜ r ≡ hostOf (callSweeping k) (lent (now (session .entry)) (now (table .entry))) .answer .code ⌝ }
+    ensures { λ _. ⌜ now (session .exit) ≡ hostOf (callSweeping k) (lent (now (session .entry)) (now (table .entry))) .session ⌝ }
+    ensures { λ _. ⌜ now (table .exit) ≡ hostOf (callSweeping k) (lent (now (session .entry)) (now (table .entry))) .table ⌝ }
 {
-    let mut read = [0u64; sessions::SESSION_WORDS];
-    let words: &mut [u64] = &mut read;
-    let fits = reads::read(&session[..], table.len(), words);
-    if fits {
-        let s = sessions::session_of(&words[..]);
+    let found = reads::read(&session[..], table.len());
+    let s = found.session;
+    if found.fits {
         let answer = answer_of(k, s, &table[..]);
         let code = answer.code;
         let next = answer.session;
@@ -99,9 +97,9 @@ pub fn on_table(k: Sweeping, session: &mut [u8], table: &mut [u8]) -> u64
 }
 
 pub fn new(session: &mut [u8], table: &mut [u8], created: u64) -> u64
-    ensures { λ r. ⌜ r ≡ hostOf true (New created) (lent (now (session .entry)) (now (table .entry))) .answer .code ⌝ }
-    ensures { λ _. ⌜ now (session .exit) ≡ hostOf true (New created) (lent (now (session .entry)) (now (table .entry))) .session ⌝ }
-    ensures { λ _. ⌜ now (table .exit) ≡ hostOf true (New created) (lent (now (session .entry)) (now (table .entry))) .table ⌝ }
+    ensures { λ r. ⌜ r ≡ hostOf (New created) (lent (now (session .entry)) (now (table .entry))) .answer .code ⌝ }
+    ensures { λ _. ⌜ now (session .exit) ≡ hostOf (New created) (lent (now (session .entry)) (now (table .entry))) .session ⌝ }
+    ensures { λ _. ⌜ now (table .exit) ≡ hostOf (New created) (lent (now (session .entry)) (now (table .entry))) .table ⌝ }
 {
     let blank = [0u64; sessions::SESSION_WORDS];
     let whole = session.len() == reads::SESSION_BYTES;

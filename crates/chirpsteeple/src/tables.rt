@@ -2,14 +2,14 @@
 ghost use mathlib.Core.Path.{_≡_};
 ghost use mathlib.Core.Bool.{true};
 ghost use mathlib.Core.List.{List};
-ghost use Prim.Native.Nat.{ℕ, _%_};
+ghost use Prim.Native.Nat.{ℕ};
 ghost use lib.ListN.{length};
 ghost use Rattle.page.specs.Page.{sought};
 ghost use Rattle.table.specs.Table.{pageCount, lowest};
 ghost use Rattle.migration.specs.Token.{tokenOut};
 ghost use Rattle.wire.specs.Bytes.{wordsOf};
 ghost use Rattle.calls.specs.declared.Call.the-variants.{StartToken};
-ghost use Rattle.chirpsteeple.specs.Host.{Lent, lent, Left, sessionBytes, played, hostOf};
+ghost use Rattle.chirpsteeple.specs.Host.{Lent, lent, Left, hostOf};
 ghost use Rattle.chirpsteeple.specs.Inside.{aloneOut, callAlone};
 use crate::plays;
 use crate::plays::Numbers;
@@ -19,7 +19,6 @@ use migration::token::TokenAnswer;
 use page::queries::Sought;
 use session::Answer;
 use session::Session;
-use wire::sessions;
 use wire::tables;
 use words::codes;
 
@@ -39,15 +38,13 @@ fn make(k: Alone, s: Session, len: usize) -> Answer
 }
 
 pub fn on_session(k: Alone, session: &mut [u8], table: &[u8]) -> u64
-    ensures { λ r. ⌜ r ≡ hostOf true (callAlone k) (lent (now (session .entry)) (now (table .entry))) .answer .code ⌝ }
-    ensures { λ _. ⌜ now (session .exit) ≡ hostOf true (callAlone k) (lent (now (session .entry)) (now (table .entry))) .session ⌝ }
-    ensures { λ _. ⌜ now (table .exit) ≡ hostOf true (callAlone k) (lent (now (session .entry)) (now (table .entry))) .table ⌝ }
+    ensures { λ r. ⌜ r ≡ hostOf (callAlone k) (lent (now (session .entry)) (now (table .entry))) .answer .code ⌝ }
+    ensures { λ _. ⌜ now (session .exit) ≡ hostOf (callAlone k) (lent (now (session .entry)) (now (table .entry))) .session ⌝ }
+    ensures { λ _. ⌜ now (table .exit) ≡ hostOf (callAlone k) (lent (now (session .entry)) (now (table .entry))) .table ⌝ }
 {
-    let mut read = [0u64; sessions::SESSION_WORDS];
-    let words: &mut [u64] = &mut read;
-    let fits = reads::read(&session[..], table.len(), words);
-    if fits {
-        let s = sessions::session_of(&words[..]);
+    let found = reads::read(&session[..], table.len());
+    let s = found.session;
+    if found.fits {
         let answer = make(k, s, table.len() / 8);
         let code = answer.code;
         let next = answer.session;
@@ -83,41 +80,30 @@ fn answer_of(s: Session, table: &[u8]) -> TokenAnswer
     token::token_answer(s, gate, pages, first53, first54)
 }
 
-fn grant(s: Session, session: &mut [u8], table: &[u8]) -> Numbers
-    requires { ⌜ (length (now session) ≡ sessionBytes) × (length (now table) % 8 ≡ 0) ⌝ }
-    ensures { λ r. ⌜ r ≡ played true StartToken s (lent (now (session .entry)) (now (table .entry))) .answer ⌝ }
-    ensures { λ _. ⌜ now (session .exit) ≡ played true StartToken s (lent (now (session .entry)) (now (table .entry))) .session ⌝ }
-    ensures { λ _. ⌜ now (table .exit) ≡ played true StartToken s (lent (now (session .entry)) (now (table .entry))) .table ⌝ }
-{
-    let answer = answer_of(s, table);
-    let token = answer.token;
-    let next = answer.session;
-    let code = token::number_of(token);
-    let page = token::page_of(token);
-    plays::put_unless(code, session, next);
-    Numbers {
-        code,
-        page: page as u64,
-        next: 0,
-        first: 0,
-        last: 0,
-        info: 0,
-        errors: 0,
-        buffers: 0,
-    }
-}
-
 pub fn start_token(session: &mut [u8], table: &[u8]) -> Numbers
-    ensures { λ r. ⌜ r ≡ hostOf true StartToken (lent (now (session .entry)) (now (table .entry))) .answer ⌝ }
-    ensures { λ _. ⌜ now (session .exit) ≡ hostOf true StartToken (lent (now (session .entry)) (now (table .entry))) .session ⌝ }
-    ensures { λ _. ⌜ now (table .exit) ≡ hostOf true StartToken (lent (now (session .entry)) (now (table .entry))) .table ⌝ }
+    ensures { λ r. ⌜ r ≡ hostOf StartToken (lent (now (session .entry)) (now (table .entry))) .answer ⌝ }
+    ensures { λ _. ⌜ now (session .exit) ≡ hostOf StartToken (lent (now (session .entry)) (now (table .entry))) .session ⌝ }
+    ensures { λ _. ⌜ now (table .exit) ≡ hostOf StartToken (lent (now (session .entry)) (now (table .entry))) .table ⌝ }
 {
-    let mut read = [0u64; sessions::SESSION_WORDS];
-    let words: &mut [u64] = &mut read;
-    let fits = reads::read(&session[..], table.len(), words);
-    if fits {
-        let s = sessions::session_of(&words[..]);
-        return grant(s, session, table);
+    let found = reads::read(&session[..], table.len());
+    let s = found.session;
+    if found.fits {
+        let answer = answer_of(s, table);
+        let token = answer.token;
+        let next = answer.session;
+        let code = token::number_of(token);
+        let page = token::page_of(token);
+        plays::put_unless(code, session, next);
+        return Numbers {
+            code,
+            page: page as u64,
+            next: 0,
+            first: 0,
+            last: 0,
+            info: 0,
+            errors: 0,
+            buffers: 0,
+        };
     }
     plays::code_alone(codes::MALFORMED)
 }

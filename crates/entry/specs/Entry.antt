@@ -8,10 +8,10 @@ use Rattle.words.specs.Operations as operations
 use Rattle.words.specs.Statuses as statuses
 use Rattle.words.specs.declared.entries.Entry.{Entry}
 use Rattle.refusals.specs.Refusals.{Test, _gives_, firstOf}
-use Rattle.states.specs.Lists.{listingOf}
-use Rattle.states.specs.declared.State.{State}
-use Rattle.page.specs.Page.{tracked}
-use Rattle.page.specs.declared.Page.{Page}
+use Rattle.states.specs.States.{isIn, goesBy, numberIn}
+use Rattle.states.specs.Lists.{sentStates, pendingStates, barredStates, cancelledStates, exports, operated, dataStates}
+use Rattle.page.specs.Page.{Page, pageOf, strange, onWords, tracked}
+use Rattle.page.specs.declared.PageWords.{PageWords}
 use Rattle.session.specs.Session.{among}
 use Rattle.session.specs.declared.Phase.the-variants.{Live}
 use Rattle.entry.specs.declared.Ground.{Ground}
@@ -24,7 +24,11 @@ invalid e =
 
 -- strange, 0, 1, 3, or 24 or 29 without Dirty
 unfoldable pub unexportable : Page → Bool
-unexportable p = listingOf (p .state) .barred || (listingOf (p .state) .sent && not (p .dirty))
+unexportable p = strange p || isIn (p .state) barredStates || (isIn (p .state) sentStates && not (p .dirty))
+
+-- 26, 27, 31
+abbrev pub cancelled : Page → Bool
+cancelled p = isIn (p .state) cancelledStates
 
 -- 15, 1, 2, 4, 7; then, not for 26, 27, 31: 17, and in Live, for stamp 0 or ≥ TLB epoch, 5
 abbrev pub statusTests : Entry → Page → Ground → List Test
@@ -33,9 +37,9 @@ statusTests e p g =
     ∷ eqb (e .operation) operations.nop gives statuses.skipped
     ∷ leb (g .pages) (e .gpa) gives statuses.septWalkFailed
     ∷ unexportable p gives statuses.septEntryStateIncorrect
-    ∷ eqb (p .epoch) (g .epoch) gives statuses.migratedInCurrentEpoch
-    ∷ (not (listingOf (p .state) .cancelled) && p .dirty) gives statuses.pageDirty
-    ∷ (not (listingOf (p .state) .cancelled) && among (Live ∷ []) (g .phase) && not (tracked (p .stamp) (g .tlb))) gives statuses.tlbTrackingNotDone
+    ∷ eqb (p .migrated) (g .epoch) gives statuses.migratedInCurrentEpoch
+    ∷ (not (cancelled p) && p .dirty) gives statuses.pageDirty
+    ∷ (not (cancelled p) && among (Live ∷ []) (g .phase) && not (tracked (p .stamp) (g .tlb))) gives statuses.tlbTrackingNotDone
     ∷ []
 
 -- else status 0
@@ -47,28 +51,34 @@ unfoldable pub answerWord : Entry → Bool → ℕ → ℕ → ℕ
 answerWord e pending operation status =
     entryWord (withStatus (withOperation (withL2Map (withState (withPending e pending) 0) 0) operation) status)
 
+-- data pages are those exported from 4 or 25
+abbrev pub contents : Page → Bool
+contents p = isIn (p .state) dataStates
+
 -- the migration epoch becomes current
-abbrev pub exportedPage : Page → State → ℕ → Page
-exportedPage p to epoch = record { state = to; dirty = p .dirty; cached = p .cached; stamp = p .stamp; epoch = epoch; mark = p .mark }
+abbrev pub exportedPage : ℕ → Page → Page
+exportedPage epoch p =
+    record { state = goesBy exports (p .state); dirty = p .dirty; cached = p .cached; stamp = p .stamp; migrated = epoch; mark = p .mark }
 
 -- OPERATION as done; PENDING 1 for successes from 2, 30, 31 (29 has no success); the buffer word is the mark for 4 and 25, else 0
-unfoldable pub success : Entry → Page → ℕ → Taken
-success e p epoch =
-    let row = listingOf (p .state) in
+unfoldable pub sentEntry : Entry → PageWords → ℕ → Taken
+sentEntry e w epoch =
+    let p = pageOf w in
     record {
       status = statuses.success;
-      word = answerWord e (row .pending) (row .operation) statuses.success;
-      buffer = cond (row .contents) (p .mark) 0;
-      page = exportedPage p (row .export) epoch;
-      contents = row .contents;
+      word = answerWord e (isIn (p .state) pendingStates) (numberIn operated (p .state)) statuses.success;
+      buffer = cond (contents p) (p .mark) 0;
+      words = onWords (exportedPage epoch) w;
+      contents = contents p;
     }
 
 -- OPERATION and PENDING 0, buffer word 0, and the page as it was
-unfoldable pub failure : Entry → Page → ℕ → Taken
-failure e p status =
-    record { status = status; word = answerWord e false operations.nop status; buffer = 0; page = p; contents = false }
+unfoldable pub failedEntry : Entry → PageWords → ℕ → Taken
+failedEntry e w status =
+    record { status = status; word = answerWord e false operations.nop status; buffer = 0; words = w; contents = false }
 
-unfoldable pub takenOf : ℕ → Page → Ground → Taken
-takenOf w p g =
-    let status = statusOf (entryOf w) p g in
-    cond (eqb status statuses.success) (success (entryOf w) p (g .epoch)) (failure (entryOf w) p status)
+-- an entry's word, on the words of the page that it names
+unfoldable pub takenOf : ℕ → PageWords → Ground → Taken
+takenOf word w g =
+    let status = statusOf (entryOf word) (pageOf w) g in
+    cond (eqb status statuses.success) (sentEntry (entryOf word) w (g .epoch)) (failedEntry (entryOf word) w status)

@@ -1,14 +1,13 @@
 // One entry of a list that is exported: what becomes of its word and of its page, as a pure step on the ground that the whole call stands on.
 ghost use mathlib.Core.Path.{_≡_};
-ghost use mathlib.Core.Bool.{cond};
-ghost use Prim.Native.Nat.{_<_, _^_};
-ghost use Rattle.words.specs.Entry.{EntryFits};
-ghost use Rattle.entry.specs.Entry.{invalid, unexportable, statusOf, answerWord, exportedPage, success, failure, takenOf};
-use page::Page;
+ghost use mathlib.Core.Bool.{cond, false};
+ghost use Rattle.states.specs.States.{numberOf, goesBy};
+ghost use Rattle.states.specs.Lists.{exports};
+ghost use Rattle.page.specs.Page.{pageOf, strange, wordsFor, onWords};
+ghost use Rattle.entry.specs.Entry.{invalid, unexportable, statusOf, answerWord, exportedPage, sentEntry, failedEntry, takenOf};
+use page::PageWords;
 use page::queries;
 use session::Phase;
-use states::State;
-use states::lists;
 use words::entries;
 use words::entries::Entry;
 use words::operations;
@@ -30,7 +29,8 @@ pub struct Taken {
     // The entry as it comes back.
     pub word: u64,
     pub buffer: u64,
-    pub page: Page,
+    // The page's words afterwards.
+    pub words: PageWords,
     // The buffer holds the page's contents.
     pub contents: bool,
 }
@@ -48,29 +48,28 @@ fn is_invalid(e: Entry) -> bool
 }
 
 // Its state bars it: status 4.
-fn is_unexportable(p: Page) -> bool
-    ensures { λ r. ⌜ r ≡ unexportable p ⌝ }
+fn is_unexportable(w: PageWords) -> bool
+    ensures { λ r. ⌜ r ≡ unexportable (pageOf w) ⌝ }
 {
-    let s = p.state;
-    let row = lists::listing_of(s);
-    row.barred | (row.sent & !p.dirty)
+    let n = page::state_of(w);
+    let p = records::record_of(w.word);
+    states::is_strange(n) | states::is_barred(n) | (states::is_sent(n) & !p.dirty)
 }
 
 // The first test that holds gives the status.
-fn status_of(e: Entry, p: Page, g: Ground) -> u64
-    ensures { λ r. ⌜ r ≡ statusOf e p g ⌝ }
+fn status_of(e: Entry, w: PageWords, g: Ground) -> u64
+    ensures { λ r. ⌜ r ≡ statusOf e (pageOf w) g ⌝ }
 {
-    let s = p.state;
     let phase = g.phase;
-    let row = lists::listing_of(s);
+    let p = records::record_of(w.word);
+    let cancelled = states::is_cancelled(page::state_of(w));
     let comes = session::comes_in(phase);
     let tracked = queries::is_tracked(p.stamp, g.tlb);
     let invalid = is_invalid(e);
     let skipped = e.operation == operations::NOP;
     let beyond = g.pages <= e.gpa;
-    let unexportable = is_unexportable(p);
-    let cancelled = row.cancelled;
-    let again = p.epoch == g.epoch;
+    let unexportable = is_unexportable(w);
+    let again = p.migrated == g.epoch;
     let dirty = !cancelled & p.dirty;
     let early = !cancelled & comes.live & !tracked;
     if invalid {
@@ -99,7 +98,6 @@ fn status_of(e: Entry, p: Page, g: Ground) -> u64
 
 // The entry as it comes back.
 fn answer_word(e: Entry, pending: bool, operation: u64, status: u64) -> u64
-    requires { ⌜ EntryFits e × (operation < 2 ^ 2) × (status < 2 ^ 5) ⌝ }
     ensures { λ r. ⌜ r ≡ answerWord e pending operation status ⌝ }
 {
     entries::entry_word(Entry {
@@ -117,18 +115,24 @@ fn answer_word(e: Entry, pending: bool, operation: u64, status: u64) -> u64
     })
 }
 
-// In another state, exported in this epoch.
-fn exported_page(p: Page, to: State, epoch: u64) -> Page
-    ensures { λ r. ⌜ r ≡ exportedPage p to epoch ⌝ }
+// In another state, exported in this epoch, if it is not strange.
+fn exported(w: PageWords, to: u8, epoch: u64) -> PageWords
+    ensures { λ r. ⌜ (strange (pageOf w) ≡ false → to ≡ numberOf (goesBy exports (pageOf w .state)) → r ≡ wordsFor (exportedPage epoch (pageOf w))) ⌝ }
 {
-    Page {
-        state: to,
-        dirty: p.dirty,
-        cached: p.cached,
-        stamp: p.stamp,
-        epoch,
-        mark: p.mark,
+    let moved = records::set_state(w.word, to);
+    let word = records::set_migrated(moved, epoch);
+    PageWords { word, mark: w.mark }
+}
+
+fn export_words(w: PageWords, epoch: u64) -> PageWords
+    ensures { λ r. ⌜ r ≡ onWords (exportedPage epoch) w ⌝ }
+{
+    let n = page::state_of(w);
+    let after = exported(w, states::export_of(n), epoch);
+    if states::is_strange(n) {
+        return w;
     }
+    after
 }
 
 // The mark for what is data, else 0.
@@ -138,47 +142,46 @@ fn buffer_word(contents: bool, mark: u64) -> u64
     if contents { mark } else { 0 }
 }
 
-fn succeed(e: Entry, p: Page, epoch: u64) -> Taken
-    requires { ⌜ EntryFits e ⌝ }
-    ensures { λ r. ⌜ r ≡ success e p epoch ⌝ }
+fn succeed(e: Entry, w: PageWords, epoch: u64) -> Taken
+    ensures { λ r. ⌜ r ≡ sentEntry e w epoch ⌝ }
 {
-    let s = p.state;
-    let row = lists::listing_of(s);
-    let to = row.export;
-    let word = answer_word(e, row.pending, row.operation, statuses::SUCCESS);
-    let buffer = buffer_word(row.contents, p.mark);
-    let page = exported_page(p, to, epoch);
+    let n = page::state_of(w);
+    let pending = states::is_pending(n);
+    let operation = states::operation_of(n);
+    let contents = states::is_data(n);
+    let word = answer_word(e, pending, operation, statuses::SUCCESS);
+    let buffer = buffer_word(contents, w.mark);
+    let words = export_words(w, epoch);
     Taken {
         status: statuses::SUCCESS,
         word,
         buffer,
-        page,
-        contents: row.contents,
+        words,
+        contents,
     }
 }
 
-fn fail(e: Entry, p: Page, status: u64) -> Taken
-    requires { ⌜ EntryFits e × (status < 2 ^ 5) ⌝ }
-    ensures { λ r. ⌜ r ≡ failure e p status ⌝ }
+fn fail(e: Entry, w: PageWords, status: u64) -> Taken
+    ensures { λ r. ⌜ r ≡ failedEntry e w status ⌝ }
 {
     let word = answer_word(e, false, operations::NOP, status);
     Taken {
         status,
         word,
         buffer: 0,
-        page: p,
+        words: w,
         contents: false,
     }
 }
 
-// The entry whose word this is, on the page that it names.
-pub fn take_entry(w: u64, p: Page, g: Ground) -> Taken
-    ensures { λ r. ⌜ r ≡ takenOf w p g ⌝ }
+// The entry with this word, on the words of the page that it names.
+pub fn take_entry(word: u64, w: PageWords, g: Ground) -> Taken
+    ensures { λ r. ⌜ r ≡ takenOf word w g ⌝ }
 {
-    let e = entries::entry_of(w);
-    let status = status_of(e, p, g);
+    let e = entries::entry_of(word);
+    let status = status_of(e, w, g);
     if status == statuses::SUCCESS {
-        return succeed(e, p, g.epoch);
+        return succeed(e, w, g.epoch);
     }
-    fail(e, p, status)
+    fail(e, w, status)
 }

@@ -1,5 +1,5 @@
 -- The laws of a run, one for each way that a turn goes; and what is known past an export's tests.
-use mathlib.Core.Path.{_≡_, refl, sym, ap}
+use mathlib.Core.Path.{_≡_, refl, ap}
 use mathlib.Core.Bool.{Bool, true, false, not, _&&_, true≢false}
 use lib.Dec.{eqb, leb}
 use Prim.Native.Nat.{ℕ, zero, suc, _+_, _-_, _≤_, _<_}
@@ -7,14 +7,13 @@ use native.Mathlib.Omega.{arith}
 use lib.ListN.{getD}
 use borrow.Author.Tests.{le-leb, lt-leb, leb-true, leb-false, lt-ltb, ltb-true, eqb-true}
 use Rattle.refusals.proofs.Laws.{either, and-right, not-false}
-use Rattle.session.specs.Session.{moving, resting, streamPlaces, runOf}
-use Rattle.session.specs.Formed.{within, usable, lastEntry, mostEntries, streamIs}
+use Rattle.session.specs.Session.{among, moving, resting, streamPlaces, workOf}
+use Rattle.session.specs.Formed.{within, usable, lastEntry, mostEntries}
 use Rattle.session.specs.declared.Session.{Session}
-use Rattle.session.specs.declared.streams.Run.{Run}
-use Rattle.session.specs.declared.streams.Run.the-variants.{AtRest, Interrupted}
-use Rattle.session.specs.declared.streams.Asked.the-variants as asked
+use Rattle.session.specs.declared.streams.Work.{Work}
+use Rattle.session.specs.declared.streams.Work.the-variants.{AtRest, Interrupted}
 use Rattle.session.proofs.Laws.{gate-open}
-use Rattle.session.proofs.FormedLaws.{formed-means, stream-means}
+use Rattle.session.proofs.FormedLaws.{WorkFormed, formed-means}
 use Rattle.words.specs.declared.infos.Info.{Info}
 use Rattle.entry.specs.declared.Ground.{Ground}
 use Rattle.words.specs.Statuses as statuses
@@ -44,14 +43,14 @@ run-step g last budget spent s h k =
 
 pub record Counts (at : Progress) : Type 0 where
   pub errors : at .errors ≤ at .next
-  pub pages : at .pages ≤ at .next
+  pub filled : at .filled ≤ at .next
 
 pub counts-step : (g : Ground) (s : Standing) → Counts (s .at) → Counts (stepped g s .at)
 unfolding stepped counted
 counts-step g s h =
     record {
       errors = omega (arith, h .errors, bit-lt (not (eqb (taking g s .status) statuses.success) && not (eqb (taking g s .status) statuses.skipped)));
-      pages = omega (arith, h .pages, bit-lt (taking g s .contents));
+      filled = omega (arith, h .filled, bit-lt (taking g s .contents));
     }
 
 pub next-step : (g : Ground) (s : Standing) (last : ℕ) → s .at .next ≤ last → stepped g s .at .next ≤ last + 1
@@ -87,15 +86,15 @@ resumed : (resume r : Bool) → (resume && not r) ≡ false → (not resume && t
 resumed true r a b = not-false r a
 resumed false r a b = absurd (true≢false b)
 
-pub record Ready (entries room : ℕ) (run : Run) (x : Info) : Type 0 where
+pub record Ready (entries room : ℕ) (run : Work) (x : Info) : Type 0 where
   pub within : x .last < entries
   pub same : room ≡ entries
   pub short : x .last ≤ lastEntry
   pub ordered : begunBy run .next ≤ x .last
   pub counts : Counts (begunBy run)
 
-pub export-ready : (s : Session) (len entries room stream : ℕ) (resume : Bool) (x : Info) → exportCode s len entries room stream resume x ≡ 0 → Ready entries room (runOf s stream) x
-unfolding exportCode runOf
+pub export-ready : (s : Session) (len entries room stream : ℕ) (resume : Bool) (x : Info) → exportCode s len entries room stream resume x ≡ 0 → Ready entries room (workOf s stream) x
+unfolding exportCode workOf
 export-ready s len entries room stream resume x e =
     let o = gate-open s len moving (exportTests s entries room stream resume x) refl e in
     let f = formed-means s len (o .formed) in
@@ -104,13 +103,12 @@ export-ready s len entries room stream resume x e =
     let low : stream < streamPlaces = omega (arith, able, f .created .high) in
     let few : entries ≤ mostEntries = leb-true _ _ (and-right (leb 1 entries) (leb entries mostEntries) (not-false (within 1 mostEntries entries) (p .1 .0))) in
     let inside : x .last < entries = leb-false _ _ (p .1 .1 .1 .1 .1 .0) in
-    let here : runOf s stream ≡ getD (s .streams) stream resting .run = rw (lt-ltb _ _ low) in
-    let begun = go (f .streams stream low) (runOf s stream) here (p .1 .1 .1 .1 .1 .1 .0) (p .1 .1 .1 .1 .1 .1 .1 .0) in
+    let here : workOf s stream ≡ getD (s .streams) stream resting .work = rw (lt-ltb _ _ low) in
+    let begun = go (workOf s stream) (rw here (f .streams stream low)) (p .1 .1 .1 .1 .1 .1 .0) (p .1 .1 .1 .1 .1 .1 .1 .0) in
     record { within = inside; same = eqb-true _ _ (not-false (eqb room entries) (p .1 .1 .0)); short = omega (arith, inside, few); ordered = begun .0; counts = begun .1 }
   where
-    go : streamIs asked.Formed s stream ≡ true → (r : Run) → r ≡ getD (s .streams) stream resting .run → noResumption resume r x ≡ false → noNewCall resume r ≡ false → (begunBy r .next ≤ x .last) × Counts (begunBy r)
-    go k AtRest q a b = (omega arith, record { errors = omega arith; pages = omega arith })
-    go k (Interrupted next last errors pages) q a b =
-        let w = stream-means s stream next last errors pages (sym q) k in
+    go : (r : Work) → WorkFormed (among moving (s .phase)) (s .created) stream r → noResumption resume r x ≡ false → noNewCall resume r ≡ false → (begunBy r .next ≤ x .last) × Counts (begunBy r)
+    go AtRest w a b = (omega arith, record { errors = omega arith; filled = omega arith })
+    go (Interrupted next last errors filled) w a b =
         let y : x .last ≡ last = eqb-true _ _ (and-right (eqb (x .first) next) (eqb (x .last) last) (resumed resume (eqb (x .first) next && eqb (x .last) last) a b)) in
-        (omega (arith, w .ordered, y), record { errors = w .few-errors; pages = w .few-pages })
+        (omega (arith, w .ordered, y), record { errors = w .few-errors; filled = w .few-filled })

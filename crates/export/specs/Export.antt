@@ -8,11 +8,11 @@ use Rattle.words.specs.Codes as codes
 use Rattle.words.specs.Info.{infoOf, infoWord, withFirst}
 use Rattle.words.specs.declared.infos.Info.{Info}
 use Rattle.refusals.specs.Refusals.{Test, _gives_}
-use Rattle.session.specs.Session.{moving, runOf, withRun}
-use Rattle.session.specs.Formed.{gated, within, usable, runResting, mostEntries}
+use Rattle.session.specs.Session.{moving, workOf, withWork}
+use Rattle.session.specs.Formed.{gated, within, usable, workResting, mostEntries}
 use Rattle.session.specs.declared.Session.{Session}
-use Rattle.session.specs.declared.streams.Run.{Run}
-use Rattle.session.specs.declared.streams.Run.the-variants.{AtRest, Interrupted}
+use Rattle.session.specs.declared.streams.Work.{Work}
+use Rattle.session.specs.declared.streams.Work.the-variants.{AtRest, Interrupted}
 use Rattle.entry.specs.declared.Ground.{Ground}
 use Rattle.export.specs.Run.{Standing, standing, exportRun}
 use Rattle.export.specs.declared.runs.Progress.{Progress}
@@ -37,15 +37,15 @@ abbrev pub lastBeyond : ℕ → Info → Bool
 lastBeyond entries x = leb entries (x .last)
 
 -- interrupted, with this FIRST and LAST
-abbrev pub resumable : Run → Info → Bool
+abbrev pub resumable : Work → Info → Bool
 resumable AtRest x = false
-resumable (Interrupted next last errors pages) x = eqb (x .first) next && eqb (x .last) last
+resumable (Interrupted next last errors filled) x = eqb (x .first) next && eqb (x .last) last
 
-abbrev pub noResumption : Bool → Run → Info → Bool
-noResumption resume run x = resume && not (resumable run x)
+abbrev pub noResumption : Bool → Work → Info → Bool
+noResumption resume work x = resume && not (resumable work x)
 
-abbrev pub noNewCall : Bool → Run → Bool
-noNewCall resume run = not resume && not (runResting run)
+abbrev pub noNewCall : Bool → Work → Bool
+noNewCall resume work = not resume && not (workResting work)
 
 abbrev pub notFrom0 : Bool → Info → Bool
 notFrom0 resume x = not resume && not (eqb (x .first) 0)
@@ -59,8 +59,8 @@ exportTests s entries room stream resume x =
     ∷ badFormat x gives codes.operandInvalid
     ∷ bitsSet x gives codes.operandInvalid
     ∷ lastBeyond entries x gives codes.operandInvalid
-    ∷ noResumption resume (runOf s stream) x gives codes.invalidResumption
-    ∷ noNewCall resume (runOf s stream) gives codes.invalidResumption
+    ∷ noResumption resume (workOf s stream) x gives codes.invalidResumption
+    ∷ noNewCall resume (workOf s stream) gives codes.invalidResumption
     ∷ notFrom0 resume x gives codes.operandInvalid
     ∷ []
 
@@ -73,38 +73,34 @@ unfoldable pub groundOf : Session → Ground
 groundOf s = record { phase = s .phase; tlb = s .tlb; epoch = s .epoch; pages = s .pages }
 
 -- a new call begins at entry 0 with no counts; a resumed one goes on
-abbrev pub begunBy : Run → Progress
-begunBy AtRest = record { next = 0; errors = 0; pages = 0 }
-begunBy (Interrupted next last errors pages) = record { next = next; errors = errors; pages = pages }
+abbrev pub begunBy : Work → Progress
+begunBy AtRest = record { next = 0; errors = 0; filled = 0 }
+begunBy (Interrupted next last errors filled) = record { next = next; errors = errors; filled = filled }
 
 -- 1 for MACs, 2 if LAST ≥ 256
 unfoldable pub macPages : ℕ → ℕ
 macPages last = cond (leb 256 last) 2 1
 
--- FIRST becomes the next index, at the end (LAST+1) mod 512
-unfoldable pub nextFirst : ℕ → ℕ → ℕ
-nextFirst last next = cond (ltb last next) ((last + 1) % mostEntries) next
-
--- at the end: the errors of the whole operation, 1 buffer for the list, those for MACs and the data pages; the stream at rest
+-- at the end FIRST becomes (LAST+1) mod 512; the errors of the whole operation, 1 buffer for the list, those for MACs and the data pages; the stream at rest
 abbrev pub doneBy : Session → ℕ → Info → Progress → ExportAnswer
 doneBy s stream x at =
     record {
       code = codes.done;
-      info = infoWord (withFirst x (nextFirst (x .last) (at .next)));
+      info = infoWord (withFirst x ((x .last + 1) % mostEntries));
       errors = at .errors;
-      buffers = 1 + macPages (x .last) + at .pages;
-      session = withRun s stream AtRest;
+      buffers = 1 + macPages (x .last) + at .filled;
+      session = withWork s stream AtRest;
     }
 
--- before it: both counts 0; the stream interrupted
+-- before it FIRST becomes the next index; both counts 0; the stream interrupted
 abbrev pub interruptedBy : Session → ℕ → Info → Progress → ExportAnswer
 interruptedBy s stream x at =
     record {
       code = codes.interrupted;
-      info = infoWord (withFirst x (nextFirst (x .last) (at .next)));
+      info = infoWord (withFirst x (at .next));
       errors = 0;
       buffers = 0;
-      session = withRun s stream (Interrupted (at .next) (x .last) (at .errors) (at .pages));
+      session = withWork s stream (Interrupted (at .next) (x .last) (at .errors) (at .filled));
     }
 
 -- all done is tested before the budget
@@ -131,5 +127,5 @@ exportOut s t l b stream resume info budget =
     let x = infoOf info in
     let code = exportCode s (length t) (length l) (length b) stream resume x in
     cond (eqb code codes.done)
-    (ranExport s stream x (exportRun (groundOf s) (x .last) budget (standing (begunBy (runOf s stream)) t l b)))
+    (ranExport s stream x (exportRun (groundOf s) (x .last) budget (standing (begunBy (workOf s stream)) t l b)))
     (refusedExport code s t l b)

@@ -7,9 +7,7 @@ use lib.Dec.{eqb, leb}
 use Rattle.words.specs.Entry.{entryOf}
 use Rattle.words.specs.Runs.{bit}
 use Rattle.words.specs.Statuses as statuses
-use Rattle.page.specs.Page.{written}
-use Rattle.page.specs.declared.records.PageWords.{PageWords}
-use Rattle.table.specs.Table.{wordsAt, pageAt, putAt}
+use Rattle.table.specs.Table.{wordsAt, putAt}
 use Rattle.entry.specs.Entry.{takenOf}
 use Rattle.entry.specs.declared.Ground.{Ground}
 use Rattle.entry.specs.declared.Taken.{Taken}
@@ -29,16 +27,12 @@ standing at t l b = record { at = at; table = t; list = l; buffer = b }
 abbrev pub wordOf : Standing → ℕ
 wordOf s = getD (s .list) (s .at .next) 0
 
-abbrev pub placeOf : Standing → ℕ
-placeOf s = entryOf (wordOf s) .gpa
+abbrev pub gpaOf : Standing → ℕ
+gpaOf s = entryOf (wordOf s) .gpa
 
 -- what becomes of the next entry
 abbrev pub taking : Ground → Standing → Taken
-taking g s = takenOf (wordOf s) (pageAt (s .table) (placeOf s)) g
-
--- only a success writes the page
-unfoldable pub wordsAfter : PageWords → Taken → PageWords
-wordsAfter w got = cond (eqb (got .status) statuses.success) (written w (got .page)) w
+taking g s = takenOf (wordOf s) (wordsAt (s .table) (gpaOf s)) g
 
 -- errors: status neither 0 nor 1
 unfoldable pub counted : Progress → Taken → Progress
@@ -46,14 +40,14 @@ counted at got =
     record {
       next = at .next + 1;
       errors = at .errors + bit (not (eqb (got .status) statuses.success) && not (eqb (got .status) statuses.skipped));
-      pages = at .pages + bit (got .contents);
+      filled = at .filled + bit (got .contents);
     }
 
 -- one entry
 unfoldable pub stepped : Ground → Standing → Standing
 stepped g s =
     standing (counted (s .at) (taking g s))
-    (putAt (s .table) (placeOf s) (wordsAfter (wordsAt (s .table) (placeOf s)) (taking g s)))
+    (putAt (s .table) (gpaOf s) (taking g s .words))
     (set (s .list) (s .at .next) (taking g s .word))
     (set (s .buffer) (s .at .next) (taking g s .buffer))
 

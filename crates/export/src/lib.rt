@@ -1,15 +1,15 @@
 // Export of a list: its entries in turn, as far as the budget goes, on a stream that remembers where it was interrupted.
 ghost use mathlib.Core.Path.{_≡_};
 ghost use Prim.Native.Nat.{_+_, _≤_};
-ghost use Rattle.words.specs.Info.{InfoFits};
+ghost use Rattle.words.specs.Info.{infoWord, withFirst};
 ghost use Rattle.session.specs.Formed.{lastEntry};
-ghost use Rattle.export.specs.Export.{resumable, exportCode, groundOf, begunBy, macPages, nextFirst, finishedBy, exportOut};
+ghost use Rattle.export.specs.Export.{resumable, exportCode, groundOf, begunBy, macPages, finishedBy, exportOut};
 use crate::runs::Progress;
 use entry::Ground;
 use session::Session;
 use session::When;
 use session::streams;
-use session::streams::Run;
+use session::streams::Work;
 use words::codes;
 use words::infos;
 use words::infos::Info;
@@ -27,16 +27,16 @@ pub struct ExportAnswer {
 }
 
 // The stream was interrupted where the info word goes on.
-fn is_resumable(run: Run, x: Info) -> bool
-    ensures { λ r. ⌜ r ≡ resumable run x ⌝ }
+fn is_resumable(work: Work, x: Info) -> bool
+    ensures { λ r. ⌜ r ≡ resumable work x ⌝ }
 {
-    match run {
-        Run::AtRest => false,
-        Run::Interrupted {
+    match work {
+        Work::AtRest => false,
+        Work::Interrupted {
             next,
             last,
             errors: _,
-            pages: _,
+            filled: _,
         } => { (x.first == next) & (x.last == last) }
     }
 }
@@ -52,10 +52,10 @@ fn export_code(
 ) -> u64
     ensures { λ r. ⌜ r ≡ exportCode s len entries room stream resume x ⌝ }
 {
-    let run = streams::run_of(s, stream);
+    let work = streams::work_of(s, stream);
     let usable = streams::is_usable(s, stream);
-    let resumable = is_resumable(run, x);
-    let resting = streams::is_resting(run);
+    let resumable = is_resumable(work, x);
+    let resting = streams::is_resting(work);
     let gate = session::gate(s, len, When::Moving);
     let bad_length = !((1 <= entries) & (entries <= streams::MOST_ENTRIES));
     let other_buffer = room != entries;
@@ -111,24 +111,24 @@ fn ground_of(s: Session) -> Ground
 }
 
 // Where a call on the stream goes on.
-fn begin(run: Run) -> Progress
-    ensures { λ r. ⌜ r ≡ begunBy run ⌝ }
+fn begin(work: Work) -> Progress
+    ensures { λ r. ⌜ r ≡ begunBy work ⌝ }
 {
-    match run {
-        Run::AtRest => Progress {
+    match work {
+        Work::AtRest => Progress {
             next: 0,
             errors: 0,
-            pages: 0,
+            filled: 0,
         },
-        Run::Interrupted {
+        Work::Interrupted {
             next,
             last: _,
             errors,
-            pages,
+            filled,
         } => Progress {
             next,
             errors, // of the whole operation, and not of its last call alone
-            pages,
+            filled,
         },
     }
 }
@@ -142,49 +142,44 @@ fn mac_pages(last: u64) -> u64
     if ENTRIES_A_MAC_PAGE <= last { 2 } else { 1 }
 }
 
-// The next index, at the end that of the list which follows.
-fn next_first(last: u64, next: u64) -> u64
-    requires { ⌜ (last ≤ lastEntry) × (next ≤ last + 1) ⌝ }
-    ensures { λ r. ⌜ r ≡ nextFirst last next ⌝ }
-    ensures { λ r. ⌜ r ≤ lastEntry ⌝ }
+// The info word that tells where the operation goes on.
+fn info_from(x: Info, first: u64) -> u64
+    ensures { λ r. ⌜ r ≡ infoWord (withFirst x first) ⌝ }
 {
-    if last < next {
-        return (last + 1) % (streams::LAST_ENTRY + 1);
-    }
-    next
-}
-
-fn finish(s: Session, stream: u64, x: Info, at: Progress) -> ExportAnswer
-    requires { ⌜ InfoFits x × (at .next ≤ x .last + 1) × (at .pages ≤ at .next) ⌝ }
-    ensures { λ r. ⌜ r ≡ finishedBy s stream x at ⌝ }
-{
-    let last = x.last;
-    let macs = mac_pages(last);
-    let first = next_first(last, at.next);
-    let info = infos::info_word(Info {
+    infos::info_word(Info {
         format: x.format,
         first,
         hpa: x.hpa,
         zero52: x.zero52,
-        last,
-    });
+        last: x.last,
+    })
+}
+
+fn finish(s: Session, stream: u64, x: Info, at: Progress) -> ExportAnswer
+    requires { ⌜ (x .last ≤ lastEntry) × (at .next ≤ x .last + 1) × (at .filled ≤ at .next) ⌝ }
+    ensures { λ r. ⌜ r ≡ finishedBy s stream x at ⌝ }
+{
+    let last = x.last;
     if last < at.next {
-        let session = streams::with_run(s, stream, Run::AtRest);
+        let macs = mac_pages(last);
+        let info = info_from(x, (last + 1) % (streams::LAST_ENTRY + 1));
+        let session = streams::with_work(s, stream, Work::AtRest);
         return ExportAnswer {
             code: codes::DONE,
             info,
             errors: at.errors,
-            buffers: 1 + macs + at.pages,
+            buffers: 1 + macs + at.filled,
             session,
         };
     }
-    let run = Run::Interrupted {
+    let info = info_from(x, at.next);
+    let work = Work::Interrupted {
         next: at.next,
         last,
         errors: at.errors,
-        pages: at.pages,
+        filled: at.filled,
     };
-    let session = streams::with_run(s, stream, run);
+    let session = streams::with_work(s, stream, work);
     ExportAnswer {
         code: codes::INTERRUPTED,
         info,
@@ -222,8 +217,8 @@ pub fn export(
         };
     }
     let g = ground_of(s);
-    let run = streams::run_of(s, stream);
-    let from = begin(run);
+    let work = streams::work_of(s, stream);
+    let from = begin(work);
     let at = runs::run_entries(table, list, buffer, from, x.last, budget, g);
     finish(s, stream, x, at)
 }

@@ -4,11 +4,9 @@ ghost use Prim.Native.Nat.{_+_, _≤_, _<_};
 ghost use lib.ListN.{length};
 ghost use Rattle.words.specs.Runs.{bit};
 ghost use Rattle.session.specs.Formed.{lastEntry};
-ghost use Rattle.export.specs.Run.{standing, wordsAfter, counted, stepped, exportRun};
+ghost use Rattle.export.specs.Run.{standing, counted, stepped, exportRun};
 use entry::Ground;
 use entry::Taken;
-use page::records;
-use page::records::PageWords;
 use words::entries;
 use words::statuses;
 
@@ -17,18 +15,7 @@ pub struct Progress {
     pub next: u64,
     pub errors: u64,
     // Data pages.
-    pub pages: u64,
-}
-
-// The page's words after its entry: only a success writes them.
-fn words_after(w: PageWords, got: Taken) -> PageWords
-    ensures { λ r. ⌜ r ≡ wordsAfter w got ⌝ }
-{
-    let page = got.page;
-    if got.status == statuses::SUCCESS {
-        return records::write_back(w, page);
-    }
-    w
+    pub filled: u64,
 }
 
 // A count, one more if the flag is set.
@@ -41,17 +28,17 @@ fn count_if(n: u64, flag: bool) -> u64
 
 // One entry more; a skipped one is no error.
 fn count(at: Progress, got: Taken) -> Progress
-    requires { ⌜ (at .next ≤ lastEntry) × (at .errors ≤ at .next) × (at .pages ≤ at .next) ⌝ }
+    requires { ⌜ (at .next ≤ lastEntry) × (at .errors ≤ at .next) × (at .filled ≤ at .next) ⌝ }
     ensures { λ r. ⌜ r ≡ counted at got ⌝ }
 {
     let status = got.status;
     let error = (status != statuses::SUCCESS) & (status != statuses::SKIPPED);
     let errors = count_if(at.errors, error);
-    let pages = count_if(at.pages, got.contents);
+    let filled = count_if(at.filled, got.contents);
     Progress {
         next: at.next + 1,
         errors,
-        pages,
+        filled,
     }
 }
 
@@ -63,7 +50,7 @@ fn step(
     at: Progress,
     g: Ground,
 ) -> Progress
-    requires { ⌜ (at .next < length (now list)) × (at .next < length (now buffer)) × (at .next ≤ lastEntry) × (at .errors ≤ at .next) × (at .pages ≤ at .next) ⌝ }
+    requires { ⌜ (at .next < length (now list)) × (at .next < length (now buffer)) × (at .next ≤ lastEntry) × (at .errors ≤ at .next) × (at .filled ≤ at .next) ⌝ }
     ensures { λ r. ⌜ r ≡ stepped g (standing at (now (table .entry)) (now (list .entry)) (now (buffer .entry))) .at ⌝ }
     ensures { λ _. ⌜ now (table .exit) ≡ stepped g (standing at (now (table .entry)) (now (list .entry)) (now (buffer .entry))) .table ⌝ }
     ensures { λ _. ⌜ now (list .exit) ≡ stepped g (standing at (now (table .entry)) (now (list .entry)) (now (buffer .entry))) .list ⌝ }
@@ -74,9 +61,8 @@ fn step(
     let e = entries::entry_of(w);
     let k = e.gpa as usize;
     let before = table::load(&table[..], k);
-    let page = records::page_of(before);
-    let got = entry::take_entry(w, page, g);
-    let after = words_after(before, got);
+    let got = entry::take_entry(w, before, g);
+    let after = got.words;
     let next = count(at, got);
     table::store(table, k, after);
     list[i] = got.word;
@@ -94,7 +80,7 @@ pub(crate) fn run_entries(
     budget: u64,
     g: Ground,
 ) -> Progress
-    requires { ⌜ (last < length (now list)) × (length (now buffer) ≡ length (now list)) × (last ≤ lastEntry) × (from .next ≤ last) × (from .errors ≤ from .next) × (from .pages ≤ from .next) ⌝ }
+    requires { ⌜ (last < length (now list)) × (length (now buffer) ≡ length (now list)) × (last ≤ lastEntry) × (from .next ≤ last) × (from .errors ≤ from .next) × (from .filled ≤ from .next) ⌝ }
     ensures { λ r. ⌜ r ≡ exportRun g last budget (standing from (now (table .entry)) (now (list .entry)) (now (buffer .entry))) .at ⌝ }
     ensures { λ _. ⌜ now (table .exit) ≡ exportRun g last budget (standing from (now (table .entry)) (now (list .entry)) (now (buffer .entry))) .table ⌝ }
     ensures { λ _. ⌜ now (list .exit) ≡ exportRun g last budget (standing from (now (table .entry)) (now (list .entry)) (now (buffer .entry))) .list ⌝ }

@@ -6,17 +6,17 @@ use Prim.Native.Nat.{ℕ, zero, suc, _+_, _-_, _/_, _≤_, _<_}
 use native.Mathlib.Omega.{arith}
 use lib.Dec.{eqb, ltb, leb}
 use lib.ListN.{length}
-use borrow.Author.Tests.{le-leb, ltb-true, ltb-false, eqb-true}
+use borrow.Author.Tests.{ltb-true, ltb-false, eqb-true}
 use Rattle.words.specs.Codes as codes
 use Rattle.words.specs.Info.{infoOf}
 use Rattle.refusals.specs.Refusals.{_gives_}
 use Rattle.refusals.proofs.Laws.{either, passed, first-all, not-false}
 use Rattle.table.specs.Table.{legal, wordsAt}
-use Rattle.session.specs.Session.{moving, streamPlaces, newSession, withPhase, withEpoch, runOf}
-use Rattle.session.specs.Formed.{fewestCreated, mostCreated, lastEntry, within, usable}
+use Rattle.session.specs.Session.{moving, streamPlaces, newSession, withPhase, withEpoch, workOf}
+use Rattle.session.specs.Formed.{fewestCreated, mostCreated, within, usable}
 use Rattle.session.specs.declared.Phase.the-variants.{Live, Blackout, Done}
 use Rattle.session.specs.declared.Session.{Session}
-use Rattle.session.specs.declared.streams.Run.the-variants.{AtRest, Interrupted}
+use Rattle.session.specs.declared.streams.Work.the-variants.{AtRest, Interrupted}
 use Rattle.session.proofs.Laws.{gate-open}
 use Rattle.session.proofs.FormedLaws.{Formed, formed-means}
 use Rattle.memory.specs.Memory.{newCode}
@@ -77,9 +77,9 @@ run-comes zero scan i put part list = record { next = omega arith; complete = λ
 run-comes (suc n) scan i put part list =
     let f = lookOf (wordsAt part i) (scan .first + i) (scan .tlb) in
     let there : scan .first + (i + 1) + n ≡ scan .first + i + suc n = omega arith in
-    let other : not (eqb (stopCode scan f i put (length list)) codes.checkComplete) ≡ true
-    = first-all (λ (m : ℕ). not (eqb m codes.checkComplete)) (stopTests scan f i put (length list)) refl refl in
-    either (λ (o : ScanOut). Comes (scan .first + i + suc n) (o .scanned)) (eqb (stopCode scan f i put (length list)) 0)
+    let other : not (eqb (stopCode scan (f .blocked) (f .listed) i put (length list)) codes.checkComplete) ≡ true
+    = first-all (λ (m : ℕ). not (eqb m codes.checkComplete)) (stopTests scan (f .blocked) (f .listed) i put (length list)) refl refl in
+    either (λ (o : ScanOut). Comes (scan .first + i + suc n) (o .scanned)) (eqb (stopCode scan (f .blocked) (f .listed) i put (length list)) 0)
     (λ e. rw (← there) (run-comes n scan (i + 1) _ _ _))
     (λ e. record { next = omega arith; complete = λ q. absurd (false≢true (rw q at other)) })
 
@@ -116,14 +116,14 @@ export-made s t l b stream resume info budget e =
     let x = infoOf info in
     let o = gate-open s (length t) moving (exportTests s (length l) (length b) stream resume x) refl e in
     let f = formed-means s (length t) (o .formed) in
-    let able : usable s stream ≡ true = not-false (usable s stream) (o .passed .0) in
-    let low : stream < streamPlaces = omega (arith, ltb-true (stream + 1) (s .created) able, f .created .high) in
+    let able : stream + 1 < s .created = ltb-true _ _ (not-false (usable s stream) (o .passed .0)) in
+    let low : stream < streamPlaces = omega (arith, able, f .created .high) in
     let r = export-ready s (length t) (length l) (length b) stream resume x e in
     let at = exported s t l b stream info budget .at in
     let m : Bounds (x .last) at
-    = run-bounds (groundOf s) (x .last) budget (standing (begunBy (runOf s stream)) t l b) (record { next = omega (arith, r .ordered); counts = r .counts }) in
+    = run-bounds (groundOf s) (x .last) budget (standing (begunBy (workOf s stream)) t l b) (record { next = omega (arith, r .ordered); counts = r .counts }) in
     either (λ (a : ExportAnswer). Formed (a .session) (length t)) (ltb (x .last) (at .next))
-    (λ q. run-formed f stream low AtRest refl)
+    (λ q. run-formed f stream low AtRest tt)
     (λ q.
-    run-formed f stream low (Interrupted (at .next) (x .last) (at .errors) (at .pages))
-    (rw (o .comes, able, le-leb (at .next) (x .last) (ltb-false _ _ q), le-leb (x .last) lastEntry (r .short), le-leb (at .errors) (at .next) (m .counts .errors), le-leb (at .pages) (at .next) (m .counts .pages)) refl))
+    run-formed f stream low (Interrupted (at .next) (x .last) (at .errors) (at .filled))
+    (record { moving = o .comes; usable = able; ordered = ltb-false _ _ q; short = r .short; few-errors = m .counts .errors; few-filled = m .counts .filled }))

@@ -3,7 +3,7 @@ use mathlib.Core.Path.{_≡_, refl, sym, ap, _∙_, subst}
 use mathlib.Core.Logic.{_⊎_, inl, inr, ⊎-elim}
 use mathlib.Core.Bool.{Bool}
 use mathlib.Core.List.{List, [], _∷_, List·Memᴰ, List·Memᴰ·not-nil, List·Memᴰ·cases-cons}
-use Prim.Native.Nat.{ℕ, zero, suc, _+_, _/_, _≤_, _<_}
+use Prim.Native.Nat.{ℕ, zero, suc, _+_, _/_, _^_, _≤_, _<_}
 use native.Mathlib.Omega.{arith}
 use native.Mathlib.Decide.{ℕ-discrete}
 use lib.Dec.{leb}
@@ -11,22 +11,21 @@ use lib.ListN.{length, getD, set, length-set}
 use lib.Seq.{getD-set-other}
 use borrow.Author.Tests.{leb-false}
 use Rattle.words.specs.Info.{infoOf}
-use Rattle.words.specs.Record.{room}
 use Rattle.refusals.proofs.Laws.{either}
 use Rattle.page.specs.Page.{pageOf}
-use Rattle.page.specs.declared.Page.{Page}
-use Rattle.table.specs.Table.{pageCount, pageAt}
-use Rattle.session.specs.Session.{moving, runOf}
+use Rattle.page.specs.Page.{Page}
+use Rattle.table.specs.Table.{pageCount, wordsAt, pageAt}
+use Rattle.session.specs.Session.{moving, workOf}
 use Rattle.session.specs.declared.Phase.the-variants.{Blackout}
 use Rattle.session.specs.declared.Session.{Session}
 use Rattle.session.proofs.Laws.{gate-open}
 use Rattle.session.proofs.FormedLaws.{formed-means, epoch-fits}
 use Rattle.migration.specs.Grant.{Ready}
 use Rattle.entry.specs.declared.Ground.{Ground}
-use Rattle.export.specs.Run.{Standing, standing, wordOf, placeOf, taking, counted, stepped, exportRun}
+use Rattle.export.specs.Run.{Standing, standing, wordOf, gpaOf, taking, counted, stepped, exportRun}
 use Rattle.export.specs.Export.{exportTests, exportCode, groundOf, begunBy}
 use Rattle.export.proofs.Laws.{export-ready}
-use Rattle.export.proofs.Moves.{step-page, step-other, step-length, exported}
+use Rattle.export.proofs.Moves.{step-words, step-other, step-length, exported}
 use Rattle.history.proofs.Exports.{begins}
 use Rattle.history.proofs.Waiting.{Names, Due, Listed}
 use Rattle.history.proofs.Turns.{ready-stays, due-either, due-taken}
@@ -37,7 +36,7 @@ Ahead l next to Else i = ((j : ℕ) × (next ≤ j) × (j < to) × Names (getD l
 
 -- a page is ready, or it is due and something holds of it
 abbrev pub Waits : Type 0 → ℕ → Page → Type 0
-Waits A epoch p = Ready p ⊎ (Due p × (p .epoch < epoch) × A)
+Waits A epoch p = Ready p ⊎ (Due p × (p .migrated < epoch) × A)
 
 pub waits-map : {A B : Type 0} (epoch : ℕ) (p : Page) → (A → B) → Waits A epoch p → Waits B epoch p
 waits-map epoch p f (inl r) = inl r
@@ -71,45 +70,45 @@ pub record Along (epoch : ℕ) (Else : ℕ → Type 0) (words entries to : ℕ) 
   pub buffer : length (s .buffer) ≡ entries
   pub waits : (i : ℕ) → i < words / 2 → Waits (Ahead (s .list) (s .at .next) to Else i) epoch (pageAt (s .table) i)
 
-module _ (g : Ground) (paused : g .phase ≡ Blackout) (fits : g .epoch < room) (Else : ℕ → Type 0) (words entries to : ℕ) (pages : g .pages ≡ words / 2) where
+module _ (g : Ground) (paused : g .phase ≡ Blackout) (fits : g .epoch < 2 ^ 16) (Else : ℕ → Type 0) (words entries to : ℕ) (pages : g .pages ≡ words / 2) where
   module _ (s : Standing) (a : Along (g .epoch) Else words entries to s) where
     inside : (i : ℕ) → i < words / 2 → i < pageCount (s .table)
     inside i h = rw (a .table) h
 
     -- a page that an entry does not name
-    page-apart : (i : ℕ) → (i ≡ placeOf s → ⊥) → pageAt (stepped g s .table) i ≡ pageAt (s .table) i
+    page-apart : (i : ℕ) → (i ≡ gpaOf s → ⊥) → pageAt (stepped g s .table) i ≡ pageAt (s .table) i
     page-apart i ne = ap pageOf (step-other g s i ne)
 
-    page-named : (i : ℕ) → i < words / 2 → i ≡ placeOf s → pageAt (stepped g s .table) i ≡ taking g s .page
+    page-named : (i : ℕ) → i < words / 2 → i ≡ gpaOf s → pageAt (stepped g s .table) i ≡ pageOf (taking g s .words)
     page-named i h e =
-        ap (pageAt (stepped g s .table)) e ∙ step-page g s fits (subst (λ (k : ℕ). k < pageCount (s .table)) e (inside i h))
+        ap (pageAt (stepped g s .table)) e ∙ ap pageOf (step-words g s (subst (λ (k : ℕ). k < pageCount (s .table)) e (inside i h)))
 
     ready-step : (i : ℕ) → i < words / 2 → Ready (pageAt (s .table) i) → Ready (pageAt (stepped g s .table) i)
-    ready-step i h r = elim (ℕ-discrete i (placeOf s)) [ yes e ↦ named e | no ne ↦ subst Ready (sym (page-apart i ne)) r ]
+    ready-step i h r = elim (ℕ-discrete i (gpaOf s)) [ yes e ↦ named e | no ne ↦ subst Ready (sym (page-apart i ne)) r ]
       where
-        named : i ≡ placeOf s → Ready (pageAt (stepped g s .table) i)
+        named : i ≡ gpaOf s → Ready (pageAt (stepped g s .table) i)
         named e =
-            let there : Ready (pageAt (s .table) (placeOf s)) = subst (λ (k : ℕ). Ready (pageAt (s .table) k)) e r in
-            subst Ready (sym (page-named i h e ∙ ready-stays (wordOf s) (pageAt (s .table) (placeOf s)) g there)) there
+            let there : Ready (pageAt (s .table) (gpaOf s)) = subst (λ (k : ℕ). Ready (pageAt (s .table) k)) e r in
+            subst Ready (sym (page-named i h e ∙ ap pageOf (ready-stays (wordOf s) (wordsAt (s .table) (gpaOf s)) g there))) there
 
     due-step : (i : ℕ) → i < words / 2 → Due (pageAt (s .table) i) → (pageAt (stepped g s .table) i ≡ pageAt (s .table) i) ⊎ Ready (pageAt (stepped g s .table) i)
-    due-step i h d = elim (ℕ-discrete i (placeOf s)) [ yes e ↦ named e | no ne ↦ inl (page-apart i ne) ]
+    due-step i h d = elim (ℕ-discrete i (gpaOf s)) [ yes e ↦ named e | no ne ↦ inl (page-apart i ne) ]
       where
-        named : i ≡ placeOf s → (pageAt (stepped g s .table) i ≡ pageAt (s .table) i) ⊎ Ready (pageAt (stepped g s .table) i)
+        named : i ≡ gpaOf s → (pageAt (stepped g s .table) i ≡ pageAt (s .table) i) ⊎ Ready (pageAt (stepped g s .table) i)
         named e =
             ⊎-elim
-            (λ q. inl (page-named i h e ∙ q ∙ ap (pageAt (s .table)) (sym e)))
+            (λ q. inl (page-named i h e ∙ ap pageOf q ∙ ap (pageAt (s .table)) (sym e)))
             (λ r. inr (subst Ready (sym (page-named i h e)) r))
-            (due-either (wordOf s) (pageAt (s .table) (placeOf s)) g (subst (λ (k : ℕ). Due (pageAt (s .table) k)) e d))
+            (due-either (wordOf s) (wordsAt (s .table) (gpaOf s)) g fits (subst (λ (k : ℕ). Due (pageAt (s .table) k)) e d))
 
     -- the entry whose turn it is names the page
-    due-now : (i : ℕ) → i < words / 2 → Names (wordOf s) i → Due (pageAt (s .table) i) → pageAt (s .table) i .epoch < g .epoch → Ready (pageAt (stepped g s .table) i)
+    due-now : (i : ℕ) → i < words / 2 → Names (wordOf s) i → Due (pageAt (s .table) i) → pageAt (s .table) i .migrated < g .epoch → Ready (pageAt (stepped g s .table) i)
     due-now i h names d older =
-        let e : i ≡ placeOf s = sym (names .page) in
+        let e : i ≡ gpaOf s = sym (names .page) in
         subst Ready (sym (page-named i h e))
-        (due-taken (wordOf s) i (pageAt (s .table) (placeOf s)) g paused names (rw pages h)
+        (due-taken (wordOf s) i (wordsAt (s .table) (gpaOf s)) g fits paused names (rw pages h)
         (subst (λ (k : ℕ). Due (pageAt (s .table) k)) e d)
-        (subst (λ (k : ℕ). pageAt (s .table) k .epoch < g .epoch) e older))
+        (subst (λ (k : ℕ). pageAt (s .table) k .migrated < g .epoch) e older))
 
     abbrev After : ℕ → Type 0
     After i = Ahead (set (s .list) (s .at .next) (taking g s .word)) (s .at .next + 1) to Else i
@@ -121,7 +120,7 @@ module _ (g : Ground) (paused : g .phase ≡ Blackout) (fits : g .epoch < room) 
         later : After i → Waits (After i) (g .epoch) (pageAt (stepped g s .table) i)
         later y =
             ⊎-elim
-            (λ q. inr (subst Due (sym q) (x .0), subst (λ (p : Page). p .epoch < g .epoch) (sym q) (x .1), y))
+            (λ q. inr (subst Due (sym q) (x .0), subst (λ (p : Page). p .migrated < g .epoch) (sym q) (x .1), y))
             (λ r. inl r)
             (due-step i h (x .0))
 
@@ -157,9 +156,9 @@ call-along s t l b stream resume info budget Else to paused e waits =
     let p = gate-open s (length t) moving (exportTests s (length l) (length b) stream resume (infoOf info)) refl e in
     let f = formed-means s (length t) (p .formed) in
     let ready = export-ready s (length t) (length l) (length b) stream resume (infoOf info) e in
-    let at : begunBy (runOf s stream) .next ≡ infoOf info .first = begins s (length t) (length l) (length b) stream resume (infoOf info) e in
+    let at : begunBy (workOf s stream) .next ≡ infoOf info .first = begins s (length t) (length l) (length b) stream resume (infoOf info) e in
     along-run (groundOf s) paused (epoch-fits s (length t) (p .formed) (p .comes)) Else (length t) (length l) to (sym (f .ours)) (infoOf info .last) budget
-    (standing (begunBy (runOf s stream)) t l b)
+    (standing (begunBy (workOf s stream)) t l b)
     (record { table = refl; list = refl; buffer = ready .same; waits = rw at waits })
 
 -- the budget is used up, or the list is at its end

@@ -9,7 +9,8 @@ use lib.ListN.{length, replicate}
 use borrow.Author.Tests.{eqb-true}
 use Rattle.words.specs.Info.{infoOf}
 use Rattle.refusals.proofs.Laws.{either}
-use Rattle.page.specs.Sweeps.{uncached, started, aborted, sweptWords}
+use Rattle.page.specs.Page.{onWords}
+use Rattle.page.specs.Sweeps.{uncached, started, aborted}
 use Rattle.page.specs.declared.moves.Move.{Move}
 use Rattle.page.specs.declared.moves.Move.the-variants as move
 use Rattle.table.specs.Table.{pageCount, wordsAt, putAt, sweepOf}
@@ -69,8 +70,7 @@ module _ (code : ℕ) (s : Session) (t : List ℕ) (s' : Session) (t' : List ℕ
 page-copied : (k : Move) (s : Session) (t : List ℕ) (at : ℕ) (m m' c : ℕ → Holding) → Copied (s .phase) m c → Copied (onPage k s t at .answer .session .phase) (cond (eqb (onPage k s t at .answer .code) 0) m' m) (cond (eqb (onPage k s t at .answer .code) 0) c c)
 unfolding onPage
 page-copied k s t at m m' c h =
-    let turn = pageTurn k s (length t) at (wordsAt t at) in
-    answered-copied (turn .code) s t s (putAt t at (turn .words)) m m' c c h (λ e x. absurd (guest-runs (s .phase) (call-done k s t at e .0) x))
+    answered-copied _ s t s _ m m' c c h (λ e x. absurd (guest-runs (s .phase) (call-done k s t at e .comes) x))
 
 -- the token comes to a paused guest
 pub token-paused : (s : Session) (t : List ℕ) → eqb (tokenCode s t) 0 ≡ true → Stopped (s .phase)
@@ -124,13 +124,13 @@ module _ (w : World) (l b : List ℕ) (h : Copied (w .session .phase) (w .memory
   call-copied (Unblock page) = page-copied move.Unblock s t page (w .memory) (w .memory) (w .copy) h
   call-copied (Remove page) = page-copied move.Remove s t page (w .memory) (rememberedBy (Remove page) (w .memory)) (w .copy) h
   call-copied Track =
-      answered-copied (trackCode s (length t)) s t (withTlb s (s .tlb + 1)) (sweepOf (sweptWords uncached) (pageCount t) t) (w .memory) (w .memory) (w .copy) (w .copy) h (λ e. h)
+      answered-copied (trackCode s (length t)) s t (withTlb s (s .tlb + 1)) (sweepOf (onWords uncached) t) (w .memory) (w .memory) (w .copy) (w .copy) h (λ e. h)
   call-copied Start =
-      answered-copied (startCode s t) s t (begun s Live 1) (sweepOf (sweptWords started) (pageCount t) t) (w .memory) (w .memory) (w .copy) (w .copy) h (λ e x. absurd x)
+      answered-copied (startCode s t) s t (begun s Live 1) (sweepOf (onWords started) t) (w .memory) (w .memory) (w .copy) (w .copy) h (λ e x. absurd x)
   call-copied Pause =
-      answered-copied (pauseCode s t) s t (withPhase s Blackout) (sweepOf (sweptWords uncached) (pageCount t) t) (w .memory) (w .memory) (w .copy) (copiedBy Pause (w .memory) (w .copy)) h (λ e x i. refl)
+      answered-copied (pauseCode s t) s t (withPhase s Blackout) (sweepOf (onWords uncached) t) (w .memory) (w .memory) (w .copy) (copiedBy Pause (w .memory) (w .copy)) h (λ e x i. refl)
   call-copied Abort =
-      answered-copied (abortCode s t) s t (begun s Idle 0) (sweepOf (sweptWords aborted) (pageCount t) t) (w .memory) (w .memory) (w .copy) (w .copy) h (λ e x. absurd x)
+      answered-copied (abortCode s (length t)) s t (begun s Idle 0) (sweepOf (onWords aborted) t) (w .memory) (w .memory) (w .copy) (w .copy) h (λ e x. absurd x)
   call-copied NewEpoch =
       answered-copied (newEpochCode s (length t)) s t (withEpoch s (s .epoch + 1)) t (w .memory) (w .memory) (w .copy) (w .copy) h (λ e. h)
   call-copied Reset =

@@ -2,25 +2,24 @@
 -- contents are sent is clean and has no translation left that would write unseen.
 use native.Mathlib.Omega.{arith}
 use mathlib.Core.Path.{_≡_, refl}
-use mathlib.Core.Bool.{Bool, true, false, cond, not, _&&_, _||_, true≢false, false≢true}
+use mathlib.Core.Bool.{Bool, true, false, cond, not, _&&_, true≢false, false≢true}
 use mathlib.Core.List.{[], _∷_}
 use Prim.Native.Nat.{ℕ, _<_}
 use lib.Dec.{eqb, ltb}
 use borrow.Author.Tests.{ltb-true, eqb-false}
 use Rattle.words.specs.declared.entries.Entry.{Entry}
 use Rattle.refusals.proofs.Laws.{and-left, and-right, not-true, not-false, passed}
-use Rattle.states.specs.Rows.{rowOf}
-use Rattle.states.specs.Lists.{listingOf}
-use Rattle.states.specs.declared.State.{State}
-use Rattle.states.specs.declared.State.the-variants.{Free, Blocked, Pending, PendingBlocked, Mapped, Exported, ExportedModified, ExportedBlocked, ExportedRemoved, PendingExported, PendingExportedModified, PendingExportedBlocked, Strange}
+use Rattle.states.specs.States.{State, isStrange, isIn, hasMove, goesBy, numberIn}
+use Rattle.states.specs.Lists.{pendingStates, blockedStates, cancelledStates, exports, operated, dataStates}
+use Rattle.states.proofs.Laws.{move-each}
 use Rattle.page.specs.Page.{blocked, tracked}
-use Rattle.page.specs.declared.Page.{Page}
+use Rattle.page.specs.Page.{Page}
 use Rattle.session.specs.Session.{among, moving}
 use Rattle.session.specs.declared.Phase.{Phase}
 use Rattle.session.specs.declared.Phase.the-variants.{Idle, Live, Blackout, Done}
-use Rattle.entry.specs.Entry.{unexportable, statusTests, statusOf, exportedPage}
+use Rattle.entry.specs.Entry.{cancelled, statusTests, statusOf, exportedPage}
 use Rattle.entry.specs.declared.Ground.{Ground}
-use Rattle.entry.proofs.Laws.{Exportable, status-success}
+use Rattle.entry.proofs.Laws.{Exportable, status-success, exported-has}
 use Rattle.bundle.specs.Bundle.{Holding, Operation, made, Fits}
 use Rattle.history.specs.History.{operationOf}
 use Rattle.history.proofs.Pages.{Clock, clockOn, There, Same, Seen, Still, Ok}
@@ -29,39 +28,46 @@ use Rattle.history.proofs.Pages.{Clock, clockOn, There, Same, Seen, Sti
 pub record Sends (k : Clock) (p q : Page) (o : Operation) (m : Holding) : Type 0 where
   pub fits : (h : Holding) → Ok k p h → Fits o h
   pub ok : (h : Holding) → Ok k p h → Ok k q m
-  pub older : (h : Holding) → Ok k p h → p .epoch < k .epoch
-  pub now : q .epoch ≡ k .epoch
+  pub older : (h : Holding) → Ok k p h → p .migrated < k .epoch
+  pub now : q .migrated ≡ k .epoch
 
-abbrev sentAs : State → Operation
-sentAs z = operationOf (listingOf z .operation)
+abbrev pub sentAs : State → Operation
+sentAs z = operationOf (numberIn operated z)
 
-abbrev sentTo : State → ℕ → Holding
-sentTo z mark = made (sentAs z) (listingOf z .pending) (cond (listingOf z .contents) mark 0)
+abbrev pub sentTo : State → ℕ → Holding
+sentTo z mark = made (sentAs z) (isIn z pendingStates) (cond (isIn z dataStates) mark 0)
 
--- the same by state: Dirty, Cached, mark
-record Makes (z : State) (d c : Bool) (mark : ℕ) : Type 0 where
+-- the same by the change that is made: Dirty, Cached, mark
+record Makes (z to : State) (d c : Bool) (mark : ℕ) : Type 0 where
+  known : isStrange to ≡ false
   fits : (h : Holding) → There z h → Fits (sentAs z) h
-  there : There (listingOf z .export) (sentTo z mark)
-  same : (listingOf z .cancelled ≡ false → c ≡ false) → Same (listingOf z .export) d c mark (sentTo z mark)
-  blocked : rowOf (listingOf z .export) .blocked ≡ rowOf z .blocked
+  there : There to (sentTo z mark)
+  same : (isIn z cancelledStates ≡ false → c ≡ false) → Same to d c mark (sentTo z mark)
+  blocked : isIn to blockedStates ≡ isIn z blockedStates
 
-makes : (z : State) (d c : Bool) (mark : ℕ) → (listingOf z .barred || (listingOf z .sent && not d)) ≡ false → (not (listingOf z .cancelled) && d) ≡ false → Makes z d c mark
-unfolding rowOf listingOf
-makes Free d c mark a b = absurd (true≢false a)
-makes Blocked d c mark a b = absurd (true≢false a)
-makes Pending d c mark a b = record { fits = λ h t. t; there = tt; same = λ n. refl; blocked = refl }
-makes PendingBlocked d c mark a b = absurd (true≢false a)
-makes Mapped d c mark a b = record { fits = λ h t. t; there = tt; same = λ n x. (n refl, refl); blocked = refl }
-makes Exported true c mark a b = absurd (true≢false b)
-makes Exported false c mark a b = absurd (true≢false a)
-makes ExportedModified d c mark a b = record { fits = λ h t. t; there = tt; same = λ n x. (n refl, refl); blocked = refl }
-makes ExportedBlocked d c mark a b = record { fits = λ h t. t; there = refl; same = λ n. tt; blocked = refl }
-makes ExportedRemoved d c mark a b = record { fits = λ h t. t; there = refl; same = λ n. tt; blocked = refl }
-makes PendingExported true c mark a b = absurd (true≢false b)
-makes PendingExported false c mark a b = absurd (true≢false a)
-makes PendingExportedModified d c mark a b = record { fits = λ h t. t; there = tt; same = λ n. refl; blocked = refl }
-makes PendingExportedBlocked d c mark a b = record { fits = λ h t. t; there = refl; same = λ n. tt; blocked = refl }
-makes Strange d c mark a b = absurd (true≢false a)
+makes : (z : State) (d c : Bool) (mark : ℕ) → hasMove exports z ≡ true → Makes z (goesBy exports z) d c mark
+unfolding isStrange isIn numberIn
+makes z d c mark =
+    move-each (λ (x to : State). Makes x to d c mark) exports (
+      record { known = refl; fits = λ h t. t; there = tt; same = λ n. (λ x. (n refl, refl), tt); blocked = refl },
+      (
+        record { known = refl; fits = λ h t. t; there = tt; same = λ n. (tt, refl); blocked = refl },
+        (
+          record { known = refl; fits = λ h t. t; there = tt; same = λ n. (λ x. (n refl, refl), tt); blocked = refl },
+          (
+            record { known = refl; fits = λ h t. t; there = tt; same = λ n. (tt, refl); blocked = refl },
+            (
+              record { known = refl; fits = λ h t. t; there = refl; same = λ n. (tt, tt); blocked = refl },
+              (
+                record { known = refl; fits = λ h t. t; there = refl; same = λ n. (tt, tt); blocked = refl },
+                (record { known = refl; fits = λ h t. t; there = refl; same = λ n. (tt, tt); blocked = refl }, tt),
+              ),
+            ),
+          ),
+        ),
+      ),
+    )
+    z
 
 -- where the tests of Dirty and stamp are passed, no processor has a translation left
 quiet : (phase : Phase) → among moving phase ≡ true → (tlb stamp : ℕ) (d c b : Bool) → (among (Live ∷ []) phase && not (tracked stamp tlb)) ≡ false → d ≡ false → Seen tlb d c stamp → Still phase c b → c ≡ false
@@ -74,24 +80,24 @@ quiet Live m tlb stamp d c b x y s u =
 quiet Blackout m tlb stamp d c b x y s u = u .0
 quiet Done m tlb stamp d c b x y s u = absurd (false≢true m)
 
-pub entry-sends : (g : Ground) (e : Entry) (p : Page) → among moving (g .phase) ≡ true → statusOf e p g ≡ 0 → Sends (clockOn g) p (exportedPage p (listingOf (p .state) .export) (g .epoch)) (operationOf (listingOf (p .state) .operation)) (made (operationOf (listingOf (p .state) .operation)) (listingOf (p .state) .pending) (cond (listingOf (p .state) .contents) (p .mark) 0))
-unfolding statusOf unexportable
+pub entry-sends : (g : Ground) (e : Entry) (p : Page) → among moving (g .phase) ≡ true → statusOf e p g ≡ 0 → Sends (clockOn g) p (exportedPage (g .epoch) p) (sentAs (p .state)) (sentTo (p .state) (p .mark))
+unfolding statusOf
 entry-sends g e p v x =
     record {
       fits = λ h o. m .fits h (o .there);
-      ok = λ h o. record { young = omega arith; there = m .there; same = m .same (λ n. calm n o); seen = o .seen; still = rw (m .blocked) (o .still) };
-      older = λ h o. let n : p .epoch ≡ g .epoch → ⊥ = eqb-false (p .epoch) (g .epoch) (t .new) in omega (arith, n, o .young);
+      ok = λ h o. record { known = m .known; young = omega arith; there = m .there; same = m .same (λ n. calm n o); seen = o .seen; still = rw (m .blocked) (o .still) };
+      older = λ h o. let n : p .migrated ≡ g .epoch → ⊥ = eqb-false (p .migrated) (g .epoch) (t .new) in omega (arith, n, o .young);
       now = refl;
     }
   where
     t : Exportable p g
     t = status-success e p g x
 
-    m : Makes (p .state) (p .dirty) (p .cached) (p .mark)
-    m = makes (p .state) (p .dirty) (p .cached) (p .mark) (t .able) (t .clean)
+    m : Makes (p .state) (goesBy exports (p .state)) (p .dirty) (p .cached) (p .mark)
+    m = makes (p .state) (p .dirty) (p .cached) (p .mark) (exported-has p (t .able) (t .clean) .moves)
 
-    early : (not (listingOf (p .state) .cancelled) && among (Live ∷ []) (g .phase) && not (tracked (p .stamp) (g .tlb))) ≡ false
+    early : (not (cancelled p) && among (Live ∷ []) (g .phase) && not (tracked (p .stamp) (g .tlb))) ≡ false
     early = passed (statusTests e p g) refl x .1 .1 .1 .1 .1 .1 .0
 
-    calm : {h : Holding} → listingOf (p .state) .cancelled ≡ false → Ok (clockOn g) p h → p .cached ≡ false
+    calm : {h : Holding} → cancelled p ≡ false → Ok (clockOn g) p h → p .cached ≡ false
     calm n o = quiet (g .phase) v (g .tlb) (p .stamp) (p .dirty) (p .cached) (blocked p) (rw n at early) (rw n at (t .clean)) (o .seen) (o .still)

@@ -6,28 +6,26 @@ use mathlib.Core.List.{List, [], _∷_, List·Memᴰ, List·Memᴰ·head, List·
 use Prim.Native.Nat.{ℕ, _≤_}
 use lib.Dec.{leb, lit<, lit≤}
 use borrow.Author.Tests.{leb-true}
-use Rattle.words.specs.Record.{recordOf, recordWord, plain}
+use Rattle.records.specs.Record.{recordOf, recordWord, plain}
 use Rattle.words.specs.Entry.{entryOf, entryWord}
 use Rattle.words.specs.Info.{infoOf, infoWord}
 use Rattle.refusals.proofs.Laws.{and-left, and-right}
-use Rattle.states.specs.States.{stateOf}
-use Rattle.states.specs.Rows.{rowOf}
-use Rattle.states.specs.Lists.{listingOf}
-use Rattle.page.specs.Page.{pageOf, held, written, tracked, gives53, gives54}
-use Rattle.page.specs.Moves.{settled, moveCode, leaveCode, writeStep, addStep, acceptStep, blockStep, unblockStep, removeStep, turnOf}
-use Rattle.page.specs.Sweeps.{keptStamp, unlessStrange}
+use Rattle.states.specs.States.{stateOf, isStrange, isIn, hasMove, goesBy, numberIn}
+use Rattle.page.specs.Page.{pageOf, onWords, tracked, gives53, gives54}
+use Rattle.page.specs.Moves.{writable}
+use Rattle.page.specs.Sweeps.{keptStamp}
 use Rattle.table.specs.Table.{legal, wordsAt, putAt, some}
-use Rattle.session.specs.Session.{runOf, withRun}
-use Rattle.session.specs.Formed.{numberTests, busy, formed, gated}
+use Rattle.session.specs.Session.{workOf, withWork}
+use Rattle.session.specs.Formed.{busy, formed, gated}
 use Rattle.session.specs.Outcome.{answered}
-use Rattle.memory.specs.Memory.{newCode, newOut, pageCode, pageTurn, onPage, writeOut, addOut, acceptOut, blockOut, unblockOut, removeOut, trackCode, trackOut}
+use Rattle.memory.specs.Memory.{newCode, newOut, onPage, writeOut, addOut, acceptOut, blockOut, unblockOut, removeOut, trackCode, trackOut}
 use Rattle.migration.specs.Migration.{startCode, startOut, pauseCode, pauseOut, abortCode, abortOut, newEpochCode, newEpochOut, resetCode, resetOut}
 use Rattle.migration.specs.Token.{tokenCode, inTheWay, tokenFor, tokenOut}
-use Rattle.scan.specs.Look.{listed, listedWord, listedPage, lookOf}
+use Rattle.scan.specs.Look.{listed, listedWord, renewed, lookOf}
 use Rattle.scan.specs.Scan.{stopCode, endCode, scanRun, rangeRun, answerOf, checkedBy, withinTable, dscanCode, dscanOut, dcheckCode, dcheckOut}
-use Rattle.entry.specs.Entry.{invalid, unexportable, statusOf, answerWord, success, failure, takenOf}
-use Rattle.export.specs.Run.{wordsAfter, counted, stepped, exportRun}
-use Rattle.export.specs.Export.{exportCode, groundOf, macPages, nextFirst, finishedBy, exportOut}
+use Rattle.entry.specs.Entry.{invalid, unexportable, statusOf, answerWord, sentEntry, failedEntry, takenOf}
+use Rattle.export.specs.Run.{counted, stepped, exportRun}
+use Rattle.export.specs.Export.{exportCode, groundOf, macPages, finishedBy, exportOut}
 use Rattle.bundle.specs.Bundle.{Sent, Rising}
 use Rattle.history.specs.Earning.{Fair, Full, Whole, mostLists}
 use Rattle.history.specs.Example.{reordered, moved, toPause, Met}
@@ -56,7 +54,7 @@ rising-means [] e = tt
 rising-means (x ∷ l) e = (from-means (x .epoch) l (and-left (from (x .epoch) l) (rising l) e), rising-means l (and-right (from (x .epoch) l) (rising l) e))
 
 pub met : Met
-unfolding recordOf recordWord plain entryOf entryWord infoOf infoWord stateOf rowOf listingOf pageOf held written tracked gives53 gives54 settled moveCode leaveCode writeStep addStep acceptStep blockStep unblockStep removeStep turnOf keptStamp unlessStrange legal wordsAt putAt some runOf withRun numberTests busy formed gated answered newCode newOut pageCode pageTurn onPage writeOut addOut acceptOut blockOut unblockOut removeOut trackCode trackOut startCode startOut pauseCode pauseOut abortCode abortOut newEpochCode newEpochOut resetCode resetOut tokenCode inTheWay tokenFor tokenOut listed listedWord listedPage lookOf stopCode endCode scanRun rangeRun answerOf checkedBy withinTable dscanCode dscanOut dcheckCode dcheckOut invalid unexportable statusOf answerWord success failure takenOf wordsAfter counted stepped exportRun exportCode groundOf macPages nextFirst finishedBy exportOut
+unfolding recordOf recordWord plain entryOf entryWord infoOf infoWord stateOf isStrange isIn hasMove goesBy numberIn pageOf onWords tracked gives53 gives54 writable keptStamp legal wordsAt putAt some workOf withWork busy formed gated answered newCode newOut onPage writeOut addOut acceptOut blockOut unblockOut removeOut trackCode trackOut startCode startOut pauseCode pauseOut abortCode abortOut newEpochCode newEpochOut resetCode resetOut tokenCode inTheWay tokenFor tokenOut listed listedWord renewed lookOf stopCode endCode scanRun rangeRun answerOf checkedBy withinTable dscanCode dscanOut dcheckCode dcheckOut invalid unexportable statusOf answerWord sentEntry failedEntry takenOf counted stepped exportRun exportCode groundOf macPages finishedBy exportOut
 met =
     record {
       new = refl;

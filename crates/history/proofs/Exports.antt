@@ -10,23 +10,22 @@ use lib.ListN.{length, set, length-set}
 use lib.Seq.{getD-set-same, getD-set-other}
 use borrow.Author.Tests.{eqb-true, leb-true, ltb-true, ltb-false}
 use Rattle.words.specs.Info.{infoOf, infoWord, withFirst}
-use Rattle.words.specs.Record.{room}
 use Rattle.words.specs.declared.infos.Info.{Info}
 use Rattle.words.proofs.InfoLaws.{info-fits, info-word}
 use Rattle.refusals.proofs.Laws.{either, and-left, not-false}
 use Rattle.table.specs.Table.{pageCount}
-use Rattle.session.specs.Session.{among, moving, runOf, withRun, streamPlaces}
+use Rattle.session.specs.Session.{among, moving, workOf, withWork, streamPlaces}
 use Rattle.session.specs.Formed.{lastEntry}
 use Rattle.session.specs.declared.Phase.the-variants.{Idle}
 use Rattle.session.specs.declared.Session.{Session}
-use Rattle.session.specs.declared.streams.Run.{Run}
+use Rattle.session.specs.declared.streams.Work.{Work}
 use Rattle.session.specs.declared.streams.Stream.{Stream}
-use Rattle.session.specs.declared.streams.Run.the-variants.{AtRest, Interrupted}
+use Rattle.session.specs.declared.streams.Work.the-variants.{AtRest, Interrupted}
 use Rattle.session.proofs.Laws.{gate-open}
 use Rattle.session.proofs.FormedLaws.{formed-means, epoch-fits}
 use Rattle.entry.specs.declared.Ground.{Ground}
 use Rattle.export.specs.Run.{Standing, standing, taking, counted, stepped, exportRun}
-use Rattle.export.specs.Export.{noResumption, noNewCall, notFrom0, exportTests, exportCode, groundOf, begunBy, nextFirst, finishedBy, ExportOutcome, ranExport, exportOut}
+use Rattle.export.specs.Export.{noResumption, noNewCall, notFrom0, exportTests, exportCode, groundOf, begunBy, finishedBy, ExportOutcome, ranExport, exportOut}
 use Rattle.export.specs.declared.runs.Progress.{Progress}
 use Rattle.export.specs.declared.ExportAnswer.{ExportAnswer}
 use Rattle.export.proofs.Laws.{export-ready, run-bounds}
@@ -64,7 +63,7 @@ record Logging (g : Ground) (log : List Sent) (first last : ℕ) (s : Standing) 
   same : length (s .buffer) ≡ length (s .list)
   size : g .pages ≡ pageCount (s .table)
 
-module _ (g : Ground) (moves : among moving (g .phase) ≡ true) (small : g .epoch < room) (log : List Sent) (first last : ℕ) where
+module _ (g : Ground) (moves : among moving (g .phase) ≡ true) (small : g .epoch < 2 ^ 16) (log : List Sent) (first last : ℕ) where
   logging-step : (s : Standing) → s .at .next ≤ last → Logging g log first last s → Logging g log first last (stepped g s)
   unfolding stepped counted
   logging-step s h a =
@@ -94,18 +93,18 @@ module _ (g : Ground) (moves : among moving (g .phase) ≡ true) (small : g .epo
 -- ---- how far an export came
 
 -- a call that is not refused begins at the FIRST that it was given
-pub begins : (s : Session) (len entries room stream : ℕ) (resume : Bool) (x : Info) → exportCode s len entries room stream resume x ≡ 0 → begunBy (runOf s stream) .next ≡ x .first
+pub begins : (s : Session) (len entries room stream : ℕ) (resume : Bool) (x : Info) → exportCode s len entries room stream resume x ≡ 0 → begunBy (workOf s stream) .next ≡ x .first
 unfolding exportCode
 begins s len entries room stream resume x e =
     let p = gate-open s len moving (exportTests s entries room stream resume x) refl e .passed in
-    go resume (runOf s stream) (p .1 .1 .1 .1 .1 .1 .0) (p .1 .1 .1 .1 .1 .1 .1 .0) (p .1 .1 .1 .1 .1 .1 .1 .1 .0)
+    go resume (workOf s stream) (p .1 .1 .1 .1 .1 .1 .0) (p .1 .1 .1 .1 .1 .1 .1 .0) (p .1 .1 .1 .1 .1 .1 .1 .1 .0)
   where
-    go : (r : Bool) (z : Run) → noResumption r z x ≡ false → noNewCall r z ≡ false → notFrom0 r x ≡ false → begunBy z .next ≡ x .first
+    go : (r : Bool) (z : Work) → noResumption r z x ≡ false → noNewCall r z ≡ false → notFrom0 r x ≡ false → begunBy z .next ≡ x .first
     go true AtRest a b c = absurd (true≢false a)
     go false AtRest a b c = sym (eqb-true (x .first) 0 (not-false (eqb (x .first) 0) c))
-    go true (Interrupted next last errors pages) a b c =
+    go true (Interrupted next last errors filled) a b c =
         sym (eqb-true (x .first) next (and-left (eqb (x .first) next) (eqb (x .last) last) (not-false (eqb (x .first) next && eqb (x .last) last) a)))
-    go false (Interrupted next last errors pages) a b c = absurd (true≢false b)
+    go false (Interrupted next last errors filled) a b c = absurd (true≢false b)
 
 -- an info word with another FIRST reads back
 pub info-back : (info next : ℕ) → next < 2 ^ 9 → infoOf (infoWord (withFirst (infoOf info) next)) ≡ withFirst (infoOf info) next
@@ -115,19 +114,18 @@ info-back info next low =
 
 -- the entry that a run came to, as its answer tells it
 came : (s : Session) (stream info : ℕ) (at : Progress) → at .next ≤ infoOf info .last + 1 → infoOf info .last ≤ lastEntry → cameTo info (exportNumbers (finishedBy s stream (infoOf info) at)) ≡ at .next
-unfolding finishedBy nextFirst
+unfolding finishedBy
 came s stream info at h short =
     either (λ (a : ExportAnswer). cameTo info (exportNumbers a) ≡ at .next) (ltb (infoOf info .last) (at .next))
     (λ q. omega (arith, h, ltb-true (infoOf info .last) (at .next) q))
     (λ q.
     let low : at .next < 2 ^ 9 = omega (arith, short, ltb-false (infoOf info .last) (at .next) q) in
-    let here : nextFirst (infoOf info .last) (at .next) ≡ at .next = rw q in
-    ap (λ (n : ℕ). infoOf (infoWord (withFirst (infoOf info) n)) .first) here ∙ ap (λ (x : Info). x .first) (info-back info (at .next) low))
+    ap (λ (x : Info). x .first) (info-back info (at .next) low))
 
 pub ran-came : (s : Session) (t l b : List ℕ) (stream : ℕ) (resume : Bool) (info budget : ℕ) → exportCode s (length t) (length l) (length b) stream resume (infoOf info) ≡ 0 → cameTo info (exportNumbers (finishedBy s stream (infoOf info) (exported s t l b stream info budget .at))) ≡ exported s t l b stream info budget .at .next
 ran-came s t l b stream resume info budget e =
     let ready = export-ready s (length t) (length l) (length b) stream resume (infoOf info) e in
-    let bounds = run-bounds (groundOf s) (infoOf info .last) budget (standing (begunBy (runOf s stream)) t l b) (record { next = omega (arith, ready .ordered); counts = ready .counts }) in
+    let bounds = run-bounds (groundOf s) (infoOf info .last) budget (standing (begunBy (workOf s stream)) t l b) (record { next = omega (arith, ready .ordered); counts = ready .counts }) in
     came s stream info (exported s t l b stream info budget .at) (bounds .next) (ready .short)
 
 -- a refusal took none
@@ -143,8 +141,8 @@ abbrev pub withStreams : Session → List Stream → Session
 withStreams s l =
     record { phase = s .phase; pages = s .pages; tlb = s .tlb; epoch = s .epoch; created = s .created; check = s .check; streams = l }
 
-run-streams : (P : Session → Type 0) (s : Session) (stream : ℕ) (run : Run) → ((l : List Stream) → P (withStreams s l)) → P (withRun s stream run)
-unfolding withRun
+run-streams : (P : Session → Type 0) (s : Session) (stream : ℕ) (run : Work) → ((l : List Stream) → P (withStreams s l)) → P (withWork s stream run)
+unfolding withWork
 run-streams P s stream run p = either P (ltb stream streamPlaces) (λ e. p _) (λ e. p (s .streams))
 
 pub finished-streams : (P : Session → Type 0) (s : Session) (stream : ℕ) (x : Info) (at : Progress) → ((l : List Stream) → P (withStreams s l)) → P (finishedBy s stream x at .session)
@@ -173,9 +171,9 @@ module _ (w : World) (l b : List ℕ) (stream : ℕ) (resume : Bool) (info budge
       let y = formed-means s (length t) (p .formed) in
       let moves : s .phase ≡ Idle → ⊥ = not-idle moving (s .phase) refl (p .comes) in
       let ready = export-ready s (length t) (length l) (length b) stream resume (infoOf info) e in
-      let at : begunBy (runOf s stream) .next ≡ infoOf info .first = begins s (length t) (length l) (length b) stream resume (infoOf info) e in
+      let at : begunBy (workOf s stream) .next ≡ infoOf info .first = begins s (length t) (length l) (length b) stream resume (infoOf info) e in
       let none : infoOf info .first - infoOf info .first ≡ 0 = omega arith in
-      logging-run (groundOf s) (p .comes) (epoch-fits s (length t) (p .formed) (p .comes)) (w .log) (infoOf info .first) (infoOf info .last) budget (standing (begunBy (runOf s stream)) t l b)
+      logging-run (groundOf s) (p .comes) (epoch-fits s (length t) (p .formed) (p .comes)) (w .log) (infoOf info .first) (infoOf info .last) budget (standing (begunBy (workOf s stream)) t l b)
       (record {
         orderly = rw (at, none, append-nil) o;
         fine = rw (at, none, append-nil) (rw (since-begun (s .phase) (w .log) moves) at f);

@@ -10,19 +10,20 @@ use borrow.Author.Tests.{eqb-true}
 use Rattle.words.specs.Info.{infoOf}
 use Rattle.words.specs.declared.infos.Info.{Info}
 use Rattle.refusals.proofs.Laws.{either}
-use Rattle.page.specs.Sweeps.{uncached, started, aborted, sweptWords}
-use Rattle.page.specs.declared.Page.{Page}
+use Rattle.page.specs.Page.{onWords}
+use Rattle.page.specs.Sweeps.{uncached, started, aborted}
+use Rattle.page.specs.Page.{Page}
 use Rattle.page.specs.declared.moves.Move.{Move}
 use Rattle.page.specs.declared.moves.Move.the-variants as move
 use Rattle.table.specs.Table.{pageCount, wordsAt, putAt, sweepOf}
 use Rattle.table.proofs.Laws.{put-length, sweep-length}
-use Rattle.session.specs.Session.{streamPlaces, unchecked, newSession, begun, withPhase, withTlb, withEpoch, withCheck, withRun, runOf}
+use Rattle.session.specs.Session.{streamPlaces, unchecked, newSession, begun, withPhase, withTlb, withEpoch, withCheck, withWork, workOf}
 use Rattle.session.specs.Formed.{formed}
 use Rattle.session.specs.Outcome.{Outcome, answered, answeredBy}
 use Rattle.session.specs.declared.Phase.the-variants as phase
 use Rattle.session.specs.declared.Session.{Session}
-use Rattle.session.specs.declared.streams.Run.{Run}
-use Rattle.session.specs.declared.streams.Run.the-variants.{AtRest, Interrupted}
+use Rattle.session.specs.declared.streams.Work.{Work}
+use Rattle.session.specs.declared.streams.Work.the-variants.{AtRest, Interrupted}
 use Rattle.session.proofs.Laws.{answered-either}
 use Rattle.session.proofs.FormedLaws.{Formed, formed-means, means-formed}
 use Rattle.memory.specs.Memory.{newCode, newOut, pageTurn, onPage, writeOut, addOut, acceptOut, blockOut, unblockOut, removeOut, trackCode, trackOut}
@@ -59,12 +60,10 @@ module _ (s : Session) (t : List ℕ) (f : formed s (length t) ≡ true) where
 
   page-formed : (m : Move) (at : ℕ) → formed (onPage m s t at .answer .session) (length (onPage m s t at .table)) ≡ true
   unfolding onPage
-  page-formed m at =
-      let turn = pageTurn m s (length t) at (wordsAt t at) in
-      answered-formed (turn .code) s (putAt t at (turn .words)) (λ e. means) (put-length t at (turn .words))
+  page-formed m at = answered-formed _ s _ (λ e. means) (put-length t at _)
 
   swept-formed : (g : Page → Page) (code : ℕ) (s' : Session) → (code ≡ 0 → Formed s' (length t)) → formed (answeredBy g code s s' t .answer .session) (length (answeredBy g code s s' t .table)) ≡ true
-  swept-formed g code s' made = answered-formed code s' (sweepOf (sweptWords g) (pageCount t) t) made (sweep-length (sweptWords g) t (pageCount t))
+  swept-formed g code s' made = answered-formed code s' (sweepOf (onWords g) t) made (sweep-length (onWords g) t)
 
   granted-formed : formed (tokenOut s t .session) (length t) ≡ true
   unfolding tokenOut
@@ -86,7 +85,7 @@ module _ (s : Session) (t : List ℕ) (f : formed s (length t) ≡ true) where
   call-formed l b Track = swept-formed uncached (trackCode s (length t)) (withTlb s (s .tlb + 1)) (λ e. track-formed means (track-room s (length t) e))
   call-formed l b Start = swept-formed started (startCode s t) (begun s phase.Live 1) (λ e. start-formed means)
   call-formed l b Pause = swept-formed uncached (pauseCode s t) (withPhase s phase.Blackout) (pause-made s t)
-  call-formed l b Abort = swept-formed aborted (abortCode s t) (begun s phase.Idle 0) (λ e. abort-formed means)
+  call-formed l b Abort = swept-formed aborted (abortCode s (length t)) (begun s phase.Idle 0) (λ e. abort-formed means)
   call-formed l b NewEpoch = answered-formed (newEpochCode s (length t)) (withEpoch s (s .epoch + 1)) t (epoch-made s t) refl
   call-formed l b Reset = answered-formed (resetCode s (length t)) (withCheck s unchecked) t (λ e. reset-formed means) refl
   call-formed l b StartToken = granted-formed
@@ -105,7 +104,7 @@ module _ (s : Session) (t : List ℕ) (f : formed s (length t) ≡ true) where
       let ran = exported s t l b stream info budget in
       either (λ (o : ExportOutcome). formed (o .answer .session) (length (o .table)) ≡ true) (eqb (exportCode s (length t) (length l) (length b) stream resume x) 0)
       (λ e.
-      rw (export-length (groundOf s) (x .last) budget (standing (begunBy (runOf s stream)) t l b))
+      rw (export-length (groundOf s) (x .last) budget (standing (begunBy (workOf s stream)) t l b))
       (means-formed (finishedBy s stream x (ran .at) .session) (length t) (export-made s t l b stream resume info budget (eqb-true _ _ e))))
       (λ e. f)
 
@@ -121,24 +120,23 @@ module _ (s : Session) (t : List ℕ) (n : length (s .streams) ≡ streamPlaces)
 
   page-streams : (m : Move) (at : ℕ) → length (onPage m s t at .answer .session .streams) ≡ streamPlaces
   unfolding onPage
-  page-streams m at =
-      let turn = pageTurn m s (length t) at (wordsAt t at) in answered-streams (turn .code) s (putAt t at (turn .words)) n
+  page-streams m at = answered-streams _ s _ n
 
   swept-streams : (g : Page → Page) (code : ℕ) (s' : Session) → length (s' .streams) ≡ streamPlaces → length (answeredBy g code s s' t .answer .session .streams) ≡ streamPlaces
-  swept-streams g code s' made = answered-streams code s' (sweepOf (sweptWords g) (pageCount t) t) made
+  swept-streams g code s' made = answered-streams code s' (sweepOf (onWords g) t) made
 
   token-streams : length (tokenOut s t .session .streams) ≡ streamPlaces
   unfolding tokenOut
   token-streams = either (λ (s' : Session). length (s' .streams) ≡ streamPlaces) (eqb (tokenCode s t) 0) (λ e. n) (λ e. n)
 
-  run-streams : (i : ℕ) (r : Run) → length (withRun s i r .streams) ≡ streamPlaces
-  unfolding withRun
-  run-streams i r = either (λ (s' : Session). length (s' .streams) ≡ streamPlaces) (ltb i streamPlaces) (λ e. length-set (s .streams) i (record { run = r }) ∙ n) (λ e. n)
+  run-streams : (i : ℕ) (r : Work) → length (withWork s i r .streams) ≡ streamPlaces
+  unfolding withWork
+  run-streams i r = either (λ (s' : Session). length (s' .streams) ≡ streamPlaces) (ltb i streamPlaces) (λ e. length-set (s .streams) i (record { work = r }) ∙ n) (λ e. n)
 
   export-streams : (stream : ℕ) (x : Info) (at : Progress) → length (finishedBy s stream x at .session .streams) ≡ streamPlaces
   unfolding finishedBy
   export-streams stream x at =
-      either (λ (a : ExportAnswer). length (a .session .streams) ≡ streamPlaces) (ltb (x .last) (at .next)) (λ e. run-streams stream AtRest) (λ e. run-streams stream (Interrupted (at .next) (x .last) (at .errors) (at .pages)))
+      either (λ (a : ExportAnswer). length (a .session .streams) ≡ streamPlaces) (ltb (x .last) (at .next)) (λ e. run-streams stream AtRest) (λ e. run-streams stream (Interrupted (at .next) (x .last) (at .errors) (at .filled)))
 
   call-streams : (l b : List ℕ) (c : Call) → length (effectOf c s t l b .returned .session .streams) ≡ streamPlaces
   unfolding newOut writeOut addOut acceptOut blockOut unblockOut removeOut trackOut startOut pauseOut abortOut newEpochOut resetOut checkedBy
@@ -152,7 +150,7 @@ module _ (s : Session) (t : List ℕ) (n : length (s .streams) ≡ streamPlaces)
   call-streams l b Track = swept-streams uncached (trackCode s (length t)) (withTlb s (s .tlb + 1)) n
   call-streams l b Start = swept-streams started (startCode s t) (begun s phase.Live 1) refl
   call-streams l b Pause = swept-streams uncached (pauseCode s t) (withPhase s phase.Blackout) n
-  call-streams l b Abort = swept-streams aborted (abortCode s t) (begun s phase.Idle 0) refl
+  call-streams l b Abort = swept-streams aborted (abortCode s (length t)) (begun s phase.Idle 0) refl
   call-streams l b NewEpoch = answered-streams (newEpochCode s (length t)) (withEpoch s (s .epoch + 1)) t n
   call-streams l b Reset = answered-streams (resetCode s (length t)) (withCheck s unchecked) t n
   call-streams l b StartToken = token-streams

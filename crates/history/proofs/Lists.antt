@@ -13,11 +13,11 @@ use Rattle.words.specs.declared.infos.Info.{Info}
 use Rattle.words.proofs.InfoLaws.{info-word}
 use Rattle.refusals.proofs.Laws.{either}
 use Rattle.table.specs.Table.{pageAt}
-use Rattle.session.specs.Session.{streamPlaces, runOf}
+use Rattle.session.specs.Session.{streamPlaces, workOf}
 use Rattle.session.specs.Formed.{busy}
 use Rattle.session.specs.declared.Session.{Session}
-use Rattle.session.specs.declared.streams.Run.{Run}
-use Rattle.session.specs.declared.streams.Run.the-variants.{AtRest}
+use Rattle.session.specs.declared.streams.Work.{Work}
+use Rattle.session.specs.declared.streams.Work.the-variants.{AtRest}
 use Rattle.session.proofs.FormedLaws.{busy-means}
 use Rattle.migration.proofs.Grant.{resting-is}
 use Rattle.bundle.proofs.Replay.{perm-mem}
@@ -45,9 +45,9 @@ left-same w n ls ms p k =
 
 -- ---- one list
 
-run-rests : (s : Session) → busy s ≡ false → (i : ℕ) → runOf s i ≡ AtRest
-unfolding runOf
-run-rests s e i = either (λ (r : Run). r ≡ AtRest) (ltb i streamPlaces) (λ q. resting-is _ (busy-means s e i (ltb-true _ _ q))) (λ q. refl)
+run-rests : (s : Session) → busy s ≡ false → (i : ℕ) → workOf s i ≡ AtRest
+unfolding workOf
+run-rests s e i = either (λ (r : Work). r ≡ AtRest) (ltb i streamPlaces) (λ q. resting-is _ (busy-means s e i (ltb-true _ _ q))) (λ q. refl)
 
 module _ (u w : World) (x : Sending) (rest : List (List ℕ)) (whole : Whole u x) (k : Left w (u .session .created) (x .list ∷ rest)) where
   short : Short (x .list)
@@ -70,7 +70,7 @@ module _ (u w : World) (x : Sending) (rest : List (List ℕ)) (whole : Whole u x
         complete = k .complete;
         created = k .created;
         others = λ i h ne. busy-means (w .session) (k .rest) i h;
-        run = rw (run-rests (w .session) (k .rest) (x .stream)) (refl, refl);
+        work = rw (run-rests (w .session) (k .rest) (x .stream)) (refl, refl);
         format = rw first-info;
         zeros = rw first-info;
         first = rw first-info;

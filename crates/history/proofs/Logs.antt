@@ -1,36 +1,34 @@
 -- A log with the table, and one entry more: a success's word gives its fields back, and its page, with the destination, makes the step of `entry-sends`; a
 -- failure's word is none, and its page stays.
-use mathlib.Core.Path.{_≡_, refl, ap, _∙_}
+use mathlib.Core.Path.{_≡_, refl, sym, ap, _∙_}
 use mathlib.Core.Logic.{⊎-elim}
 use mathlib.Core.Bool.{Bool, true, false, cond}
 use mathlib.Core.List.{List, [], _∷_, _++_, append-nil, List·Memᴰ, List·Memᴰ·not-nil, List·Memᴰ·append-cases, List·Memᴰ·eq-of-singleton}
 use Prim.Native.Nat.{ℕ, _/_, _^_, _≤_, _<_}
 use native.Mathlib.Omega.{arith}
-use lib.Dec.{eqb, lit<}
-use borrow.Author.Tests.{eqb-true, eqb-false, leb-false}
+use lib.Dec.{eqb, ltb, lit<}
+use borrow.Author.Tests.{eqb-true, eqb-false, leb-false, ltb-true}
 use Rattle.words.specs.Entry.{entryOf, withPending, withState, withL2Map, withOperation, withStatus}
 use Rattle.words.specs.Operations as operations
-use Rattle.words.specs.Record.{room}
 use Rattle.words.specs.declared.entries.Entry.{Entry}
 use Rattle.words.proofs.EntryLaws.{entry-fits, entry-word}
-use Rattle.refusals.proofs.Laws.{passed}
-use Rattle.states.specs.Lists.{listingOf}
-use Rattle.states.specs.declared.lists.Listing.{Listing}
+use Rattle.refusals.proofs.Laws.{passed, first-all}
+use Rattle.states.specs.States.{isIn, numberIn}
+use Rattle.states.specs.Lists.{pendingStates, operated, dataStates}
 use Rattle.states.proofs.Laws.{operation-lt}
-use Rattle.page.specs.declared.Page.{Page}
+use Rattle.page.specs.Page.{Page}
 use Rattle.table.specs.Table.{pageCount, wordsAt, pageAt}
-use Rattle.table.proofs.Laws.{put-back}
 use Rattle.session.specs.Session.{among, moving}
-use Rattle.entry.specs.Entry.{unexportable, statusTests, statusOf, answerWord, exportedPage, success, failure, takenOf}
+use Rattle.entry.specs.Entry.{statusTests, statusOf, answerWord, exportedPage, sentEntry, failedEntry, takenOf}
 use Rattle.entry.specs.declared.Ground.{Ground}
-use Rattle.entry.proofs.Laws.{export-known, status-lt, status-success, taken-status}
-use Rattle.export.specs.Run.{Standing, wordOf, placeOf, taking, wordsAfter, stepped}
-use Rattle.export.proofs.Moves.{step-page, step-other, step-length}
+use Rattle.entry.proofs.Laws.{status-success, taken-status, exported-has}
+use Rattle.export.specs.Run.{Standing, wordOf, gpaOf, taking, stepped}
+use Rattle.export.proofs.Moves.{step-page, step-failed, step-other, step-length}
 use Rattle.bundle.specs.Bundle.{Sent, madeBy, Rising, Once}
 use Rattle.bundle.proofs.Replay.{rising-more, once-more, Lawful, lawful-more}
-use Rattle.history.specs.History.{operationOf, sentBy}
+use Rattle.history.specs.History.{sentBy}
 use Rattle.history.proofs.Pages.{Clock, clockOn, stay}
-use Rattle.history.proofs.Entries.{entry-sends, Sends}
+use Rattle.history.proofs.Entries.{sentAs, entry-sends, Sends}
 use Rattle.history.proofs.Rows.{Steps, Row, Rows, rows-steps, rows-sent}
 
 -- ---- a log that stands by itself, and with the table
@@ -71,6 +69,10 @@ told-word w pending operation status a b =
     entry-word (told (entryOf w) pending operation status)
     (record { level = f .level; state = lit< tt; reserved5 = f .reserved5; «l2_map» = lit< tt; «mig_type» = f .«mig_type»; gpa = f .gpa; operation = a; reserved54 = f .reserved54; status = b; reserved61 = f .reserved61 })
 
+status-lt : (e : Entry) (p : Page) (g : Ground) → statusOf e p g < 2 ^ 5
+unfolding statusOf
+status-lt e p g = ltb-true _ _ (first-all (λ (n : ℕ). ltb n (2 ^ 5)) (statusTests e p g) refl refl)
+
 status-inside : (e : Entry) (p : Page) (g : Ground) → statusOf e p g ≡ 0 → e .gpa < g .pages
 unfolding statusOf
 status-inside e p g h = leb-false (g .pages) (e .gpa) (passed (statusTests e p g) refl h .1 .1 .0)
@@ -79,46 +81,36 @@ status-inside e p g h = leb-false (g .pages) (e .gpa) (passed (statusTests e p g
 
 module _ (g : Ground) (s : Standing) where
   abbrev page : Page
-  page = pageAt (s .table) (placeOf s)
-
-  abbrev row : Listing
-  row = listingOf (page .state)
+  page = pageAt (s .table) (gpaOf s)
 
   -- what a success sends
   abbrev sends : Sent
   sends =
-      record { epoch = g .epoch; page = placeOf s; operation = operationOf (row .operation); pending = row .pending; contents = cond (row .contents) (page .mark) 0 }
+      record { epoch = g .epoch; page = gpaOf s; operation = sentAs (page .state); pending = isIn (page .state) pendingStates; contents = cond (isIn (page .state) dataStates) (page .mark) 0 }
 
   abbrev pub adds : List Sent
   adds = sentBy (g .epoch) (taking g s .word) (taking g s .buffer)
 
   sent-adds : statusOf (entryOf (wordOf s)) page g ≡ 0 → adds ≡ (sends ∷ [])
-  unfolding takenOf success unexportable
+  unfolding takenOf sentEntry
   sent-adds e =
       let x = status-success (entryOf (wordOf s)) page g e in
-      rw (e, told-word (wordOf s) (row .pending) (row .operation) 0 (operation-lt (page .state)) (lit< tt), export-known (page .state) (page .dirty) (x .able) (x .clean) .1)
-
-  sent-page : statusOf (entryOf (wordOf s)) page g ≡ 0 → taking g s .page ≡ exportedPage page (row .export) (g .epoch)
-  unfolding takenOf success
-  sent-page e = rw e
+      let operation = numberIn operated (page .state) in
+      rw (e, told-word (wordOf s) (isIn (page .state) pendingStates) operation 0 (operation-lt (page .state)) (lit< tt), exported-has page (x .able) (x .clean) .operates)
 
   left-adds : eqb (statusOf (entryOf (wordOf s)) page g) 0 ≡ false → adds ≡ []
-  unfolding takenOf failure
+  unfolding takenOf failedEntry
   left-adds e =
       rw (e, told-word (wordOf s) false operations.nop (statusOf (entryOf (wordOf s)) page g) (lit< tt) (status-lt (entryOf (wordOf s)) page g), e)
 
   left-words : eqb (statusOf (entryOf (wordOf s)) page g) 0 ≡ false → (i : ℕ) → wordsAt (stepped g s .table) i ≡ wordsAt (s .table) i
-  unfolding stepped wordsAfter
-  left-words e i = go (eqb i (placeOf s)) refl
+  left-words e i = go (eqb i (gpaOf s)) refl
     where
-      failed : eqb (taking g s .status) 0 ≡ false
-      failed = ap (λ (n : ℕ). eqb n 0) (taken-status (wordOf s) page g) ∙ e
-
-      go : (b : Bool) → eqb i (placeOf s) ≡ b → wordsAt (stepped g s .table) i ≡ wordsAt (s .table) i
-      go true q = rw (eqb-true i (placeOf s) q, failed) (put-back (s .table) (placeOf s))
+      go : (b : Bool) → eqb i (gpaOf s) ≡ b → wordsAt (stepped g s .table) i ≡ wordsAt (s .table) i
+      go true q = rw (eqb-true i (gpaOf s) q) (step-failed g s (λ z. eqb-false _ _ e (sym (taken-status (wordOf s) (wordsAt (s .table) (gpaOf s)) g) ∙ z)))
       go false q = step-other g s i (eqb-false _ _ q)
 
-  module _ (moves : among moving (g .phase) ≡ true) (small : g .epoch < room) (size : g .pages ≡ pageCount (s .table)) (log : List Sent) (o : Orderly log) (f : Fine (clockOn g) log (s .table)) where
+  module _ (moves : among moving (g .phase) ≡ true) (small : g .epoch < 2 ^ 16) (size : g .pages ≡ pageCount (s .table)) (log : List Sent) (o : Orderly log) (f : Fine (clockOn g) log (s .table)) where
     sent-more : statusOf (entryOf (wordOf s)) page g ≡ 0 → Orderly (log ++ (sends ∷ [])) × Fine (clockOn g) (log ++ (sends ∷ [])) (stepped g s .table)
     sent-more e = (
       record {
@@ -127,22 +119,22 @@ module _ (g : Ground) (s : Standing) where
         lawful = lawful-more log sends _ (old .has) (old .past) older (n .fits (old .has) (old .ok)) (f .past) (o .lawful);
       },
       record {
-        rows = rows-sent (clockOn g) log sends (s .table) (stepped g s .table) _ (step-length g s) l refl (step-page g s small l ∙ sent-page e) (step-other g s) n (f .rows);
+        rows = rows-sent (clockOn g) log sends (s .table) (stepped g s .table) _ (step-length g s) l refl (step-page g s small l (taken-status (wordOf s) (wordsAt (s .table) (gpaOf s)) g ∙ e)) (step-other g s) n (f .rows);
         past = λ y m. ⊎-elim (λ u. f .past y u) (λ u. omega (arith, ap (λ (v : Sent). v .epoch) (List·Memᴰ·eq-of-singleton u))) (List·Memᴰ·append-cases log m);
         inside = λ y m. rw (step-length g s) (⊎-elim (λ u. f .inside y u) (λ u. omega (arith, l, ap (λ (v : Sent). v .page) (List·Memᴰ·eq-of-singleton u))) (List·Memᴰ·append-cases log m));
       },
     )
       where
-        l : placeOf s < pageCount (s .table)
+        l : gpaOf s < pageCount (s .table)
         l = omega (arith, size, status-inside (entryOf (wordOf s)) page g e)
 
-        n : Sends (clockOn g) page (exportedPage page (row .export) (g .epoch)) (sends .operation) (madeBy sends)
+        n : Sends (clockOn g) page (exportedPage (g .epoch) page) (sends .operation) (madeBy sends)
         n = entry-sends g (entryOf (wordOf s)) page moves e
 
-        old : Row (clockOn g) log (placeOf s) page
-        old = f .rows (placeOf s) l
+        old : Row (clockOn g) log (gpaOf s) page
+        old = f .rows (gpaOf s) l
 
-        older : page .epoch < g .epoch
+        older : page .migrated < g .epoch
         older = n .older (old .has) (old .ok)
 
     pub one-more : Orderly (log ++ adds) × Fine (clockOn g) (log ++ adds) (stepped g s .table)

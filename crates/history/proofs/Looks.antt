@@ -1,28 +1,26 @@
 -- One page that a DCHECK passes, in Blackout, where nothing is strange and nothing blocked: by state, a page that is not listed is ready, and one that is
 -- listed becomes due and is named by the word that is written.
 use mathlib.Core.Path.{_≡_, refl, subst}
-use mathlib.Core.Logic.{_⊎_, inl, inr}
-use mathlib.Core.Bool.{Bool, true, false, cond, _&&_, _||_, true≢false, false≢true}
+use mathlib.Core.Bool.{Bool, true, false, cond, not, _&&_, _||_}
 use Prim.Native.Nat.{ℕ, _^_, _<_}
 use native.Mathlib.Omega.{arith}
 use Rattle.words.specs.Entry.{entryOf, EntryFits}
 use Rattle.words.specs.Operations as operations
 use Rattle.words.specs.declared.entries.Entry.{Entry}
 use Rattle.words.proofs.EntryLaws.{entry-word}
-use Rattle.states.specs.Rows.{rowOf}
-use Rattle.states.specs.Lists.{listingOf}
-use Rattle.states.specs.declared.State.{State}
-use Rattle.states.specs.declared.State.the-variants.{Free, Blocked, Pending, PendingBlocked, Mapped, Exported, ExportedModified, ExportedBlocked, ExportedRemoved, PendingExported, PendingExportedModified, PendingExportedBlocked, Strange}
-use Rattle.states.proofs.Laws.{hint-lt}
-use Rattle.page.specs.Page.{strange, blocked}
-use Rattle.page.specs.declared.Page.{Page}
+use Rattle.states.specs.States.{State, stateOf, isStrange, isIn, goesBy, numberIn}
+use Rattle.states.specs.Lists.{pendingStates, blockedStates, listedStates, sentStates, hinted, looks, renewedStates, barredStates, cancelledStates}
+use Rattle.states.proofs.Laws.{every-if, hint-lt}
+use Rattle.refusals.proofs.Laws.{either, and-left, and-right, or-left-false, or-right-false, not-true}
+use Rattle.page.specs.Page.{Page, strange, blocked}
 use Rattle.session.specs.declared.Phase.{Phase}
 use Rattle.session.specs.declared.Phase.the-variants.{Blackout}
 use Rattle.migration.specs.Grant.{Ready}
-use Rattle.scan.specs.Look.{listed, listedWord, listedPage}
+use Rattle.migration.proofs.Grant.{settles}
+use Rattle.scan.specs.Look.{listed, listedWord, renewed, listedPage}
 use Rattle.entry.specs.Entry.{invalid, unexportable}
 use Rattle.bundle.specs.Bundle.{Holding}
-use Rattle.history.proofs.Pages.{Clock, Still, Ok, not-strange}
+use Rattle.history.proofs.Pages.{Clock, Still, Ok}
 use Rattle.history.proofs.Waiting.{Names, Due}
 
 -- neither strange nor blocked
@@ -33,55 +31,64 @@ pub record Calm (p : Page) : Type 0 where
 pub paused-calm : (k : Clock) (p : Page) (h : Holding) → k .phase ≡ Blackout → Ok k p h → Calm p
 paused-calm k p h e o =
     let still : Still Blackout (p .cached) (blocked p) = subst (λ (x : Phase). Still x (p .cached) (blocked p)) e (o .still) in
-    record { known = not-strange p h (o .there); unblocked = still .1 }
+    record { known = o .known; unblocked = still .1 }
 
 -- ---- not listed
 
 pub unlisted-ready : (p : Page) → Calm p → listed p ≡ false → Ready p
-unfolding listed listingOf rowOf
-unlisted-ready p c e = record { known = c .known; settled = go (p .state) (p .dirty) (c .known) (c .unblocked) e }
-  where
-    go : (z : State) (d : Bool) → rowOf z .strange ≡ false → rowOf z .blocked ≡ false → (listingOf z .listed || (listingOf z .sent && d)) ≡ false → (z ≡ Free) ⊎ (((z ≡ Exported) ⊎ (z ≡ PendingExported)) × (d ≡ false))
-    go Free d k b x = inl refl
-    go Blocked d k b x = absurd (true≢false b)
-    go Pending d k b x = absurd (true≢false x)
-    go PendingBlocked d k b x = absurd (true≢false b)
-    go Mapped d k b x = absurd (true≢false x)
-    go Exported d k b x = inr (inl refl, x)
-    go ExportedModified d k b x = absurd (true≢false x)
-    go ExportedBlocked d k b x = absurd (true≢false b)
-    go ExportedRemoved d k b x = absurd (true≢false x)
-    go PendingExported d k b x = inr (inr refl, x)
-    go PendingExportedModified d k b x = absurd (true≢false x)
-    go PendingExportedBlocked d k b x = absurd (true≢false b)
-    go Strange d k b x = absurd (true≢false k)
+unfolding listed isIn isStrange stateOf
+unlisted-ready p c e =
+    let z = p .state in
+    record {
+      known = c .known;
+      settled = settles (λ (x : State). isIn x listedStates || (isStrange x || isIn x blockedStates)) tt z (p .dirty)
+          (rw (or-left-false (isIn z listedStates) (isIn z sentStates && p .dirty) e, c .known) (c .unblocked))
+          (or-right-false (isIn z listedStates) (isIn z sentStates && p .dirty) e);
+    }
 
 -- ---- listed
 
-pub listed-due : (p : Page) (tlb : ℕ) → Calm p → listed p ≡ true → Due (listedPage p tlb)
-unfolding listed listedPage listingOf rowOf unexportable
-listed-due p tlb c e = go (p .state) (p .dirty) (c .known) (c .unblocked) e
-  where
-    renewed : State → Page
-    renewed z = record { state = z; dirty = false; cached = p .cached; stamp = tlb; epoch = p .epoch; mark = p .mark }
+-- Dirty once a page in a state is listed
+abbrev dirtyThen : Bool → State → Bool
+dirtyThen d z = cond (isIn (goesBy looks z) renewedStates) false d
 
-    found : State → Bool → Page
-    found z d = record { state = z; dirty = d; cached = p .cached; stamp = p .stamp; epoch = p .epoch; mark = p .mark }
+abbrev calmListed : Bool → State → Bool
+calmListed d z = not (isStrange z || isIn z blockedStates) && (isIn z listedStates || (isIn z sentStates && d))
 
-    go : (z : State) (d : Bool) → rowOf z .strange ≡ false → rowOf z .blocked ≡ false → (listingOf z .listed || (listingOf z .sent && d)) ≡ true → Due (cond (listingOf z .renewed) (renewed (listingOf z .look)) (found z d))
-    go Free d k b x = absurd (false≢true x)
-    go Blocked d k b x = absurd (true≢false b)
-    go Pending d k b x = record { able = refl; clean = refl; unblocked = refl }
-    go PendingBlocked d k b x = absurd (true≢false b)
-    go Mapped d k b x = record { able = refl; clean = refl; unblocked = refl }
-    go Exported d k b x = record { able = refl; clean = refl; unblocked = refl }
-    go ExportedModified d k b x = record { able = refl; clean = refl; unblocked = refl }
-    go ExportedBlocked d k b x = absurd (true≢false b)
-    go ExportedRemoved d k b x = record { able = refl; clean = refl; unblocked = refl }
-    go PendingExported d k b x = record { able = refl; clean = refl; unblocked = refl }
-    go PendingExportedModified d k b x = record { able = refl; clean = refl; unblocked = refl }
-    go PendingExportedBlocked d k b x = absurd (true≢false b)
-    go Strange d k b x = absurd (true≢false k)
+abbrev dueListed : Bool → State → Bool
+dueListed d z =
+    let to = goesBy looks z in
+    let dirty = dirtyThen d z in
+    not (isStrange to || isIn to barredStates || (isIn to sentStates && not dirty)) && (not (not (isIn to cancelledStates) && dirty) && not (isIn to blockedStates))
+
+calm-due : (d : Bool) (z : State) → calmListed d z ≡ true → dueListed d z ≡ true
+unfolding isIn isStrange goesBy stateOf
+calm-due true = every-if (calmListed true) (dueListed true) tt
+calm-due false = every-if (calmListed false) (dueListed false) tt
+
+-- Dirty of a listed page is that
+listed-dirty : (tlb : ℕ) (p : Page) → listedPage tlb p .dirty ≡ dirtyThen (p .dirty) (p .state)
+unfolding renewed
+listed-dirty tlb p = either (λ (q : Page). q .dirty ≡ dirtyThen (p .dirty) (p .state)) (isIn (goesBy looks (p .state)) renewedStates) (λ e. rw e) (λ e. rw e)
+
+listed-state : (tlb : ℕ) (p : Page) → listedPage tlb p .state ≡ goesBy looks (p .state)
+unfolding renewed
+listed-state tlb p = either (λ (q : Page). q .state ≡ goesBy looks (p .state)) (isIn (goesBy looks (p .state)) renewedStates) (λ e. refl) (λ e. refl)
+
+pub listed-due : (p : Page) (tlb : ℕ) → Calm p → listed p ≡ true → Due (listedPage tlb p)
+unfolding listed unexportable
+listed-due p tlb c e =
+    let z = p .state in
+    let to = goesBy looks z in
+    let dirty = dirtyThen (p .dirty) z in
+    let able = isStrange to || isIn to barredStates || (isIn to sentStates && not dirty) in
+    let x = calm-due (p .dirty) z (rw (c .known, c .unblocked) e) in
+    let y = and-right (not able) _ x in
+    record {
+      able = rw (listed-state tlb p, listed-dirty tlb p) (not-true able (and-left (not able) _ x));
+      clean = rw (listed-state tlb p, listed-dirty tlb p) (not-true _ (and-left (not (not (isIn to cancelledStates) && dirty)) (not (isIn to blockedStates)) y));
+      unblocked = rw (listed-state tlb p) (not-true _ (and-right (not (not (isIn to cancelledStates) && dirty)) (not (isIn to blockedStates)) y));
+    }
 
 pub listed-names : (z : State) (i : ℕ) → i < 2 ^ 40 → Names (listedWord z i) i
 unfolding listedWord invalid
@@ -89,8 +96,8 @@ listed-names z i h =
     let e : Entry
     = record {
       level = 0;
-      pending = listingOf z .pending;
-      state = listingOf z .hint;
+      pending = isIn z pendingStates;
+      state = numberIn hinted z;
       reserved5 = 0;
       «l2_map» = 0;
       «mig_type» = 0;

@@ -10,14 +10,15 @@ use borrow.Author.Tests.{eqb-true, eqb-false}
 use Rattle.words.specs.Info.{infoOf}
 use Rattle.refusals.proofs.Laws.{either}
 use Rattle.page.specs.Page.{pageOf}
-use Rattle.page.specs.Sweeps.{sweptBy, sweptWords}
-use Rattle.page.specs.declared.records.PageWords.{PageWords}
+use Rattle.page.specs.Page.{onWords}
+use Rattle.page.specs.Sweeps.{sweptBy}
+use Rattle.page.specs.declared.PageWords.{PageWords}
 use Rattle.page.specs.declared.moves.Move.{Move}
 use Rattle.page.specs.declared.moves.Move.the-variants as move
 use Rattle.page.specs.declared.sweeps.Sweep.{Sweep}
 use Rattle.page.specs.declared.sweeps.Sweep.the-variants as sweep
 use Rattle.table.specs.Table.{pageCount, wordsAt, pageAt, putAt, sweepOf}
-use Rattle.session.specs.Session.{moving, newSession, withTlb, withPhase, runOf, begun}
+use Rattle.session.specs.Session.{moving, newSession, withTlb, withPhase, workOf, begun}
 use Rattle.session.specs.Outcome.{Outcome, answered}
 use Rattle.session.specs.declared.Phase.the-variants.{Idle, Live, Blackout}
 use Rattle.session.specs.declared.Session.{Session}
@@ -68,7 +69,7 @@ module _ (m : Move) (s : Session) (t : List ℕ) (at : ℕ) (n n' : ℕ → Hold
     where
       here : content (pageAt (onPage m s t at .table) at) ≡ leaves m (n at)
       here =
-          ap content (page-done m s t at (eqb-true _ _ e)) ∙ step-content m (pageAt t at) (s .tlb) (call-done m s t at e .1) ∙ ap (leaves m) (h at)
+          ap content (page-done m s t at (eqb-true _ _ e)) ∙ step-content m (pageAt t at) (s .tlb) (call-done m s t at e .moves) ∙ ap (leaves m) (h at)
 
       go : (b : Bool) → eqb at i ≡ b → n' i ≡ cond b (leaves m (n i)) (n i) → content (pageAt (onPage m s t at .table) i) ≡ n' i
       go true q x = ap (λ (k : ℕ). content (pageAt (onPage m s t at .table) k)) (sym (eqb-true at i q)) ∙ here ∙ ap (λ (k : ℕ). leaves m (n k)) (eqb-true at i q) ∙ sym x
@@ -76,18 +77,16 @@ module _ (m : Move) (s : Session) (t : List ℕ) (at : ℕ) (n n' : ℕ → Hold
 
   page-holds : Holds (onPage m s t at .table) (cond (eqb (onPage m s t at .answer .code) 0) n' n)
   unfolding onPage
-  page-holds =
-      let turn = pageTurn m s (length t) at (wordsAt t at) in
-      answered-holds (turn .code) s t s (putAt t at (turn .words)) n n' h done-holds
+  page-holds = answered-holds _ s t s _ n n' h done-holds
 
 -- block and unblock note nothing
 unmoved : (n : ℕ → Holding) (at i : ℕ) → n i ≡ cond (eqb at i) (n i) (n i)
 unmoved n at i = either (λ (x : Holding). n i ≡ x) (eqb at i) (λ q. refl) (λ q. refl)
 
 -- a call that moves every page
-sweep-holds : (k : Sweep) (code : ℕ) (s s' : Session) (t : List ℕ) (m : ℕ → Holding) → Holds t m → Holds (answered code s t s' (sweepOf (sweptWords (sweptBy k)) (pageCount t) t) .table) m
+sweep-holds : (k : Sweep) (code : ℕ) (s s' : Session) (t : List ℕ) (m : ℕ → Holding) → Holds t m → Holds (answered code s t s' (sweepOf (onWords (sweptBy k)) t) .table) m
 sweep-holds k code s s' t m h =
-    answered-either (λ (o : Outcome). Holds (o .table) m) code s t s' (sweepOf (sweptWords (sweptBy k)) (pageCount t) t)
+    answered-either (λ (o : Outcome). Holds (o .table) m) code s t s' (sweepOf (onWords (sweptBy k)) t)
     (λ q i. swept-content k t i ∙ h i)
     (λ q. h)
 
@@ -123,7 +122,7 @@ export-holds s t l b stream resume info budget m h =
     either (λ (o : ExportOutcome). Holds (o .table) m) (eqb (exportCode s (length t) (length l) (length b) stream resume x) 0)
     (λ q i.
     let o = gate-open s (length t) moving (exportTests s (length l) (length b) stream resume x) refl (eqb-true _ _ q) in
-    export-run-content (groundOf s) (x .last) budget (standing (begunBy (runOf s stream)) t l b) (epoch-fits s (length t) (o .formed) (o .comes)) i ∙ h i)
+    export-run-content (groundOf s) (x .last) budget (standing (begunBy (workOf s stream)) t l b) (epoch-fits s (length t) (o .formed) (o .comes)) i ∙ h i)
     (λ q. h)
 
 -- ---- every call
@@ -155,7 +154,7 @@ module _ (w : World) (l b : List ℕ) (h : Holds (w .table) (w .memory)) where
   call-holds Pause =
       unnoted (left Pause) (w .memory) (sweep-holds sweep.Uncache (pauseCode s t) s (withPhase s Blackout) t (w .memory) h)
   call-holds Abort =
-      unnoted (left Abort) (w .memory) (sweep-holds sweep.Abort (abortCode s t) s (begun s Idle 0) t (w .memory) h)
+      unnoted (left Abort) (w .memory) (sweep-holds sweep.Abort (abortCode s (length t)) s (begun s Idle 0) t (w .memory) h)
   call-holds NewEpoch = unnoted (left NewEpoch) (w .memory) (rw (new-epoch-table s t) h)
   call-holds Reset = unnoted (left Reset) (w .memory) (rw (reset-table s t) h)
   call-holds StartToken = unnoted (left StartToken) (w .memory) h

@@ -1,82 +1,97 @@
--- Moves of one page: the guest's and memory calls, and a scan that lists it. By state: a move is looked up for each of the thirteen, and asks nothing new of the
--- destination; a write to an exported page is seen, for Dirty is set where Cached was clear.
+-- Moves of one page: the guest's and memory calls, and a scan that lists it. By document 01's lists of changes: a change asks nothing new of the destination; a
+-- write to an exported page is seen, for Dirty is set where Cached was clear.
 use native.Mathlib.Omega.{arith}
 use mathlib.Core.Path.{_≡_, refl, sym, ap, _∙_}
 use mathlib.Core.Bool.{Bool, true, false, not, _&&_, _||_, true≢false, false≢true}
+use mathlib.Core.List.{List, [], _∷_}
 use Prim.Native.Nat.{ℕ}
-use lib.Dec.{eqb}
-use borrow.Author.Tests.{eq-eqb}
-use Rattle.refusals.proofs.Laws.{either, and-left, and-right}
-use Rattle.states.specs.Rows.{rowOf}
-use Rattle.states.specs.Lists.{listingOf}
-use Rattle.states.specs.declared.State.{State}
-use Rattle.states.specs.declared.State.the-variants.{Free, Blocked, Pending, PendingBlocked, Mapped, Exported, ExportedModified, ExportedBlocked, ExportedRemoved, PendingExported, PendingExportedModified, PendingExportedBlocked, Strange}
-use Rattle.page.specs.Page.{blocked}
-use Rattle.page.specs.Moves.{settled, moveCode, leaveCode, moved, emptied, marked, writeStep, addStep, acceptStep, blockStep, unblockStep, removeStep, stepOf}
-use Rattle.page.specs.declared.Page.{Page}
+use Rattle.refusals.proofs.Laws.{either, Passed, and-left, and-right, or-left-false, not-true, not-false}
+use Rattle.states.specs.States.{State, stateOf, isStrange, isIn, Change, hasMove, goesBy}
+use Rattle.states.specs.Lists.{writableStates, landingStates, startableStates, blockedStates, renewedStates, adds, accepts, blocks, unblocks, removes, looks}
+use Rattle.states.proofs.Laws.{every-if, eachPasses, each-by, move-each, goes-each}
+use Rattle.page.specs.Page.{Page, blocked}
+use Rattle.page.specs.Moves.{writable, moveTests, stored, emptied, restamped, movedBy}
 use Rattle.page.specs.declared.moves.Move.{Move}
 use Rattle.page.specs.declared.moves.Move.the-variants.{Write, Add, Accept, Block, Unblock, Remove}
-use Rattle.page.specs.declared.moves.Step.{Step as Moved}
-use Rattle.page.proofs.MoveLaws.{move-known, leave-known}
 use Rattle.session.specs.Session.{among, guest}
 use Rattle.session.specs.declared.Phase.{Phase}
 use Rattle.session.specs.declared.Phase.the-variants.{Idle, Live, Blackout, Done}
-use Rattle.scan.specs.Look.{listed, listedPage}
+use Rattle.scan.specs.Look.{renewed, listedPage}
 use Rattle.bundle.specs.Bundle.{Holding}
-use Rattle.history.proofs.Pages.{Clock, There, Same, Seen, Still, Ok, Step, stay, seen-zero, seen-now, If, if-true}
+use Rattle.history.proofs.Pages.{Clock, There, isExported, isPendingExported, Same, Seen, Still, Ok, Step, stay, there-as, same-free, if-false, if-map, seen-zero, seen-now}
 
--- ---- by state
+-- ---- changes of state
 
--- a change of state that asks nothing new of the destination
-abbrev Asks : State → State → Type 0
-Asks z to = ((h : Holding) → There z h → There to h) × ((d c : Bool) (m : ℕ) (h : Holding) → Same to d c m h)
+-- one that asks nothing new of the destination
+record Asks (z to : State) : Type 0 where
+  known : isStrange to ≡ false
+  there : (h : Holding) → There z h → There to h
+  same : (d c : Bool) (m : ℕ) (h : Holding) → Same to d c m h
 
--- and one that a call makes, if it has a move for the state
-abbrev Moves : State → State → Type 0
-Moves z to = If (not (rowOf to .strange)) (Asks z to)
+abbrev alike : Bool → Bool → Bool
+alike true b = b
+alike false b = not b
 
--- add, accept, block, unblock and remove
-moves : (z : State) → Moves z (rowOf z .add) × Moves z (rowOf z .accept) × Moves z (rowOf z .block) × Moves z (rowOf z .unblock) × Moves z (rowOf z .remove)
-unfolding rowOf
-moves Free = search
-moves Blocked = search
-moves Pending = search
-moves PendingBlocked = search
-moves Mapped = search
-moves Exported = search
-moves ExportedModified = search
-moves ExportedBlocked = search
-moves ExportedRemoved = search
-moves PendingExported = search
-moves PendingExportedModified = search
-moves PendingExportedBlocked = search
-moves Strange = search
+alike-same : (a b : Bool) → alike a b ≡ true → a ≡ b
+alike-same true b e = sym e
+alike-same false b e = sym (not-true b e)
+
+abbrev asksTest : State → State → Bool
+asksTest z to = not (isStrange to) && (alike (isIn to startableStates) (isIn z startableStates) && (not (isExported to) && not (isPendingExported to)))
+
+asks : (z to : State) → asksTest z to ≡ true → Asks z to
+asks z to e =
+    let x = and-right (not (isStrange to)) _ e in
+    let y = and-right (alike (isIn to startableStates) (isIn z startableStates)) _ x in
+    record {
+      known = not-true (isStrange to) (and-left (not (isStrange to)) _ e);
+      there = there-as z to (alike-same _ _ (and-left (alike (isIn to startableStates) (isIn z startableStates)) _ x));
+      same = same-free to (not-true _ (and-left (not (isExported to)) (not (isPendingExported to)) y)) (not-true _ (and-right (not (isExported to)) (not (isPendingExported to)) y));
+    }
+
+each-asks : (l : List Change) → eachPasses asksTest l ≡ true → (z : State) → not (hasMove l z) ≡ false → Asks z (goesBy l z)
+each-asks l t z e = move-each Asks l (each-by Asks asksTest asks l t) z (not-false (hasMove l z) e)
+
+-- ---- writes
 
 -- a write that is seen sets Dirty, where Cached was clear
-wrote : (d c : Bool) → (d ≡ false → c ≡ false) → (d || not c) ≡ false → ⊥
-wrote true c k x = true≢false x
-wrote false true k x = true≢false (k refl)
-wrote false false k x = true≢false x
+wrote : (d c w : Bool) → w ≡ true → (d ≡ false → c ≡ false) → (d || (w && not c)) ≡ false → ⊥
+wrote true c w e k x = true≢false x
+wrote false true w e k x = true≢false (k refl)
+wrote false false true e k x = true≢false x
+wrote false false false e k x = false≢true e
 
--- a write, and one that lands in a blocked page
-abbrev Writes : State → Type 0
-Writes z = If (rowOf z .writable) ((d c : Bool) (m n : ℕ) (h : Holding) → Same z d c m h → Same z (d || not c) true n h) × If (rowOf z .landing) ((d c : Bool) (m : ℕ) (h : Holding) → Same z d c m h)
+exported-writable : (z : State) → isExported z ≡ true → isIn z writableStates ≡ true
+unfolding isIn stateOf
+exported-writable = every-if isExported (λ (z : State). isIn z writableStates) tt
 
-writes : (z : State) → Writes z
-unfolding rowOf
-writes Free = search
-writes Blocked = search
-writes Pending = search
-writes PendingBlocked = search
-writes Mapped = search
-writes Exported = ((λ d c m n h s x. absurd (wrote d c (λ y. s y .0) x)), tt)
-writes ExportedModified = search
-writes ExportedBlocked = search
-writes ExportedRemoved = search
-writes PendingExported = search
-writes PendingExportedModified = search
-writes PendingExportedBlocked = search
-writes Strange = search
+-- no write lands in a pending page
+no-landing : (a b c : Bool) → not (a || b) ≡ true → (a || (b && c)) ≡ true → ⊥
+no-landing true b c x y = false≢true x
+no-landing false true c x y = false≢true x
+no-landing false false c x y = false≢true y
+
+write-pending : (p : Page) → writable p ≡ true → isPendingExported (p .state) ≡ false
+unfolding writable isIn stateOf
+write-pending p w = go (isPendingExported (p .state)) refl
+  where
+    go : (b : Bool) → isPendingExported (p .state) ≡ b → b ≡ false
+    go true e =
+        absurd (no-landing (isIn (p .state) writableStates) (isIn (p .state) landingStates) (p .cached) (every-if isPendingExported (λ (z : State). not (isIn z writableStates || isIn z landingStates)) tt (p .state) e) w)
+    go false e = refl
+
+-- one that is not seen landed through an old translation
+landed : (a b c : Bool) → a ≡ false → (a || (b && c)) ≡ true → c ≡ true
+landed true b c x y = absurd (true≢false x)
+landed false b c x y = and-right b c y
+
+write-seen : (tlb : ℕ) (p : Page) → writable p ≡ true → Seen tlb (p .dirty) (p .cached) (p .stamp) → Seen tlb (p .dirty || (isIn (p .state) writableStates && not (p .cached))) true (p .stamp)
+unfolding writable
+write-seen tlb p w s a b x = go (isIn (p .state) writableStates) refl x
+  where
+    go : (y : Bool) → isIn (p .state) writableStates ≡ y → (p .dirty || (y && not (p .cached))) ≡ false → true ≡ false
+    go true e q = absurd (wrote (p .dirty) (p .cached) true refl (s a b) q)
+    go false e q = sym (landed (isIn (p .state) writableStates) (isIn (p .state) landingStates) (p .cached) e w) ∙ s a b (or-left-false (p .dirty) false q)
 
 pub still-guest : (phase : Phase) → among guest phase ≡ true → (c b : Bool) → Still phase c b
 still-guest Idle g c b = tt
@@ -84,81 +99,94 @@ still-guest Live g c b = tt
 still-guest Blackout g c b = absurd (false≢true g)
 still-guest Done g c b = absurd (false≢true g)
 
+-- ---- the calls on one page
+
 module _ (k : Clock) (g : among guest (k .phase) ≡ true) (p : Page) where
   -- a move that keeps the migration epoch and leaves a stamp that says nothing of Cached
-  settles : (q : Page) (code : ℕ) → Moves (p .state) (q .state) → (eqb code 0 ≡ true → rowOf (q .state) .strange ≡ false) → q .epoch ≡ p .epoch → Seen (k .tlb) (q .dirty) (q .cached) (q .stamp) → settled code p q .code ≡ 0 → Step k k p (settled code p q .page)
-  unfolding settled
-  settles q code m f e s z = rw z step
-    where
-      a : Asks (p .state) (q .state)
-      a = if-true (not (rowOf (q .state) .strange)) (ap not (f (eq-eqb code 0 z))) m
+  settles : (q : Page) → Asks (p .state) (q .state) → q .migrated ≡ p .migrated → Seen (k .tlb) (q .dirty) (q .cached) (q .stamp) → Step k k p q
+  settles q a e s =
+      record {
+        ok = λ h o. record { known = a .known; young = rw e (o .young); there = a .there h (o .there); same = a .same (q .dirty) (q .cached) (q .mark) h; seen = s; still = still-guest (k .phase) g (q .cached) (blocked q) };
+        kept = e;
+      }
 
-      step : Step k k p q
-      step = record { ok = λ h o. record { young = rw e (o .young); there = a .0 h (o .there); same = a .1 (q .dirty) (q .cached) (q .mark) h; seen = s; still = still-guest (k .phase) g (q .cached) (blocked q) }; kept = e }
+  write-step : (mark : ℕ) → writable p ≡ true → Step k k p (stored p mark)
+  write-step mark w =
+      record {
+        ok = λ h o. record {
+          known = o .known;
+          young = o .young;
+          there = o .there;
+          same = (
+            if-map (isExported (p .state)) (λ e f y. absurd (wrote (p .dirty) (p .cached) (isIn (p .state) writableStates) (exported-writable (p .state) e) (λ x. f x .0) y)) (o .same .0),
+            if-false _ (isPendingExported (p .state)) (write-pending p w),
+          );
+          seen = write-seen (k .tlb) p w (o .seen);
+          still = still-guest (k .phase) g true (blocked p);
+        };
+        kept = refl;
+      }
 
-  write-step : (mark : ℕ) → writeStep p mark .code ≡ 0 → Step k k p (writeStep p mark .page)
-  unfolding writeStep
-  write-step mark =
-      either Goes (rowOf (p .state) .writable)
-      (λ a e. marks (p .dirty || not (p .cached)) (λ h o. if-true (rowOf (p .state) .writable) a (writes (p .state) .0) (p .dirty) (p .cached) (p .mark) mark h (o .same)) (λ s x y z. absurd (wrote (p .dirty) (p .cached) (s x y) z)))
-      (λ a. either Goes (rowOf (p .state) .landing && p .cached)
-      (λ b e. marks (p .dirty) (λ h o. if-true (rowOf (p .state) .landing) (and-left (rowOf (p .state) .landing) (p .cached) b) (writes (p .state) .1) (p .dirty) true mark h) (λ s x y z. sym (and-right (rowOf (p .state) .landing) (p .cached) b) ∙ s x y z))
-      (λ b e. absurd (omega (arith, e))))
-    where
-      Goes : Moved → Type 0
-      Goes m = m .code ≡ 0 → Step k k p (m .page)
+  pub move-step : (m : Move) → Passed (moveTests m p (k .tlb)) → Step k k p (movedBy m (k .tlb) p)
+  unfolding isIn isStrange
+  move-step (Write mark) d = write-step mark (not-false (writable p) (d .0))
+  move-step Add d = settles (emptied p (goesBy adds (p .state))) (each-asks adds refl (p .state) (d .0)) refl (seen-zero (k .tlb) false false)
+  move-step Accept d = settles (emptied p (goesBy accepts (p .state))) (each-asks accepts refl (p .state) (d .0)) refl (seen-zero (k .tlb) false false)
+  move-step Block d = settles (restamped p (goesBy blocks (p .state)) (k .tlb)) (each-asks blocks refl (p .state) (d .0)) refl (seen-now (k .tlb) (p .dirty) (p .cached))
+  move-step Unblock d = settles (restamped p (goesBy unblocks (p .state)) 0) (each-asks unblocks refl (p .state) (d .0)) refl (seen-zero (k .tlb) (p .dirty) (p .cached))
+  move-step Remove d = settles (emptied p (goesBy removes (p .state))) (each-asks removes refl (p .state) (d .0)) refl (seen-zero (k .tlb) false false)
 
-      marks : (d : Bool) → ((h : Holding) → Ok k p h → Same (p .state) d true mark h) → (Seen (k .tlb) (p .dirty) (p .cached) (p .stamp) → Seen (k .tlb) d true (p .stamp)) → Step k k p (marked p d mark)
-      marks d s n = record { ok = λ h o. record { young = o .young; there = o .there; same = s h o; seen = n (o .seen); still = still-guest (k .phase) g true (blocked p) }; kept = refl }
+-- ---- a scan
 
-pub move-step : (m : Move) (k : Clock) → among guest (k .phase) ≡ true → (p : Page) → stepOf m p (k .tlb) .code ≡ 0 → Step k k p (stepOf m p (k .tlb) .page)
-unfolding addStep acceptStep blockStep unblockStep removeStep
-move-step (Write mark) k g p e = write-step k g p mark e
-move-step Add k g p e =
-    let to = rowOf (p .state) .add in
-    settles k g p (emptied p to) (moveCode to) (moves (p .state) .0) (move-known to) refl (seen-zero (k .tlb) false false) e
-move-step Accept k g p e =
-    let to = rowOf (p .state) .accept in
-    settles k g p (emptied p to) (moveCode to) (moves (p .state) .1) (move-known to) refl (seen-zero (k .tlb) false false) e
-move-step Block k g p e =
-    let to = rowOf (p .state) .block in
-    settles k g p (moved p to (k .tlb)) (moveCode to) (moves (p .state) .2) (move-known to) refl (seen-now (k .tlb) (p .dirty) (p .cached)) e
-move-step Unblock k g p e =
-    let to = rowOf (p .state) .unblock in
-    settles k g p (moved p to 0) (leaveCode to (p .stamp) (k .tlb)) (moves (p .state) .3) (leave-known to (p .stamp) (k .tlb)) refl (seen-zero (k .tlb) (p .dirty) (p .cached)) e
-move-step Remove k g p e =
-    let to = rowOf (p .state) .remove in
-    settles k g p (emptied p to) (leaveCode to (p .stamp) (k .tlb)) (moves (p .state) .4) (leave-known to (p .stamp) (k .tlb)) refl (seen-zero (k .tlb) false false) e
+-- where being listed takes a state
+record Looks (z to : State) : Type 0 where
+  known : isStrange z ≡ false → isStrange to ≡ false
+  there : (h : Holding) → There z h → There to h
+  blocked : isIn to blockedStates ≡ isIn z blockedStates
 
--- a page that a scan renews
-abbrev Looks : State → Type 0
-Looks z = If (listingOf z .renewed) (Asks z (listingOf z .look) × (rowOf (listingOf z .look) .blocked ≡ rowOf z .blocked))
+abbrev looksTest : State → State → Bool
+looksTest z to = not (isStrange to) && (alike (isIn to startableStates) (isIn z startableStates) && alike (isIn to blockedStates) (isIn z blockedStates))
 
-looks : (z : State) → Looks z
-unfolding rowOf listingOf
-looks Free = search
-looks Blocked = search
-looks Pending = search
-looks PendingBlocked = search
-looks Mapped = search
-looks Exported = search
-looks ExportedModified = search
-looks ExportedBlocked = search
-looks ExportedRemoved = search
-looks PendingExported = search
-looks PendingExportedModified = search
-looks PendingExportedBlocked = search
-looks Strange = search
-
--- a page that a scan lists
-pub listed-step : (k : Clock) (p : Page) → listed p ≡ true → Step k k p (listedPage p (k .tlb))
-unfolding listedPage
-listed-step k p l =
-    either (λ (q : Page). Step k k p q) (listingOf (p .state) .renewed)
-    (λ e.
-    let a = if-true (listingOf (p .state) .renewed) e (looks (p .state)) in
+looks-by : (z to : State) → looksTest z to ≡ true → Looks z to
+looks-by z to e =
+    let x = and-right (not (isStrange to)) _ e in
     record {
-      ok = λ h o. record { young = o .young; there = a .0 .0 h (o .there); same = a .0 .1 false (p .cached) (p .mark) h; seen = seen-now (k .tlb) false (p .cached); still = rw (a .1) (o .still) };
+      known = λ k. not-true (isStrange to) (and-left (not (isStrange to)) _ e);
+      there = there-as z to (alike-same _ _ (and-left (alike (isIn to startableStates) (isIn z startableStates)) _ x));
+      blocked = alike-same _ _ (and-right (alike (isIn to startableStates) (isIn z startableStates)) _ x);
+    }
+
+look : (z : State) → Looks z (goesBy looks z)
+unfolding isIn isStrange
+look z = goes-each Looks looks (each-by Looks looksTest looks-by looks refl) z (record { known = λ k. k; there = λ h t. t; blocked = refl })
+
+-- one that is not renewed then was not changed
+look-stays : (z : State) → isIn (goesBy looks z) renewedStates ≡ false → goesBy looks z ≡ z
+unfolding isIn
+look-stays z = goes-each (λ (x to : State). isIn to renewedStates ≡ false → to ≡ x) looks (λ e. absurd (true≢false e), (λ e. absurd (true≢false e), tt)) z (λ e. refl)
+
+-- and one that is is not up to date
+renewed-free : (z : State) → isIn z renewedStates ≡ true → (not (isExported z) && not (isPendingExported z)) ≡ true
+unfolding isIn stateOf
+renewed-free = every-if (λ (z : State). isIn z renewedStates) (λ (z : State). not (isExported z) && not (isPendingExported z)) tt
+
+pub listed-step : (k : Clock) (p : Page) → Step k k p (listedPage (k .tlb) p)
+unfolding renewed
+listed-step k p =
+    let to = goesBy looks (p .state) in
+    let l = look (p .state) in
+    either (λ (q : Page). Step k k p q) (isIn to renewedStates)
+    (λ e.
+    let n = renewed-free to e in
+    record {
+      ok = λ h o. record {
+        known = l .known (o .known);
+        young = o .young;
+        there = l .there h (o .there);
+        same = same-free to (not-true _ (and-left (not (isExported to)) (not (isPendingExported to)) n)) (not-true _ (and-right (not (isExported to)) (not (isPendingExported to)) n)) false (p .cached) (p .mark) h;
+        seen = seen-now (k .tlb) false (p .cached);
+        still = rw (l .blocked) (o .still);
+      };
       kept = refl;
     })
-    (λ e. stay k p)
+    (λ e. rw (look-stays (p .state) e) (stay k p))

@@ -1,14 +1,13 @@
 -- One page: what always holds between calls of it and of what the destination has of it. Every move of a page keeps that (`Moves`, `Entries`, `Sweeps`), since
 -- what a move asks of Dirty, Cached and stamp is what the destination's copy needs.
 use native.Mathlib.Omega.{arith}
-use mathlib.Core.Path.{_≡_, refl}
-use mathlib.Core.Bool.{Bool, true, false, false≢true}
+use mathlib.Core.Path.{_≡_, refl, sym, subst}
+use mathlib.Core.Bool.{Bool, true, false, true≢false, false≢true}
+use mathlib.Core.List.{[], _∷_}
 use Prim.Native.Nat.{ℕ, _≤_, _<_}
-use Rattle.states.specs.declared.State.{State}
-use Rattle.states.specs.declared.State.the-variants.{Free, Blocked, Pending, PendingBlocked, Mapped, Exported, ExportedModified, ExportedBlocked, ExportedRemoved, PendingExported, PendingExportedModified, PendingExportedBlocked, Strange}
-use Rattle.page.specs.Page.{strange, blocked}
-use Rattle.page.specs.declared.Page.{Page}
-use Rattle.page.proofs.MoveLaws.{strange-state}
+use Rattle.states.specs.States.{State, Exported, PendingExported, isIn}
+use Rattle.states.specs.Lists.{startableStates}
+use Rattle.page.specs.Page.{Page, strange, blocked}
 use Rattle.session.specs.declared.Phase.{Phase}
 use Rattle.session.specs.declared.Phase.the-variants.{Idle, Live, Blackout, Done}
 use Rattle.session.specs.declared.Session.{Session}
@@ -29,37 +28,48 @@ clockOn g = record { phase = g .phase; tlb = g .tlb; epoch = g .epoch }
 
 -- ---- what holds of a page
 
--- the states in which the destination has nothing of the page, and those in which it has something
-abbrev pub There : State → Holding → Type 0
-There Free h = h ≡ absent
-There Blocked h = h ≡ absent
-There Pending h = h ≡ absent
-There PendingBlocked h = h ≡ absent
-There Mapped h = h ≡ absent
-There Exported h = Present h
-There ExportedModified h = Present h
-There ExportedBlocked h = Present h
-There ExportedRemoved h = Present h
-There PendingExported h = Present h
-There PendingExportedModified h = Present h
-There PendingExportedBlocked h = Present h
-There Strange h = ⊥
+-- what is asked only where a test holds
+abbrev pub If : Bool → Type 0 → Type 0
+If true A = A
+If false A = Unit
 
--- where the destination is up to date: Dirty, Cached, mark
+pub if-true : {A : Type 0} (b : Bool) → b ≡ true → If b A → A
+if-true true e a = a
+if-true false e a = absurd (false≢true e)
+
+pub if-false : (A : Type 0) (b : Bool) → b ≡ false → If b A
+if-false A true e = absurd (true≢false e)
+if-false A false e = tt
+
+pub if-map : {A B : Type 0} (b : Bool) → (b ≡ true → A → B) → If b A → If b B
+if-map true f a = f refl a
+if-map false f a = tt
+
+-- in 0 to 4 the destination has nothing of the page, in the others something
+abbrev nowhere : Bool → Holding → Type 0
+nowhere true h = h ≡ absent
+nowhere false h = Present h
+
+abbrev pub There : State → Holding → Type 0
+There z h = nowhere (isIn z startableStates) h
+
+abbrev pub isExported : State → Bool
+isExported z = isIn z (Exported ∷ [])
+
+abbrev pub isPendingExported : State → Bool
+isPendingExported z = isIn z (PendingExported ∷ [])
+
+-- where the destination is up to date, in 24 and 29: Dirty, Cached, mark
 abbrev pub Same : State → Bool → Bool → ℕ → Holding → Type 0
-Same Free d c m h = Unit
-Same Blocked d c m h = Unit
-Same Pending d c m h = Unit
-Same PendingBlocked d c m h = Unit
-Same Mapped d c m h = Unit
-Same Exported d c m h = d ≡ false → (c ≡ false) × (h ≡ holds false m)
-Same ExportedModified d c m h = Unit
-Same ExportedBlocked d c m h = Unit
-Same ExportedRemoved d c m h = Unit
-Same PendingExported d c m h = h ≡ holds true 0
-Same PendingExportedModified d c m h = Unit
-Same PendingExportedBlocked d c m h = Unit
-Same Strange d c m h = Unit
+Same z d c m h = If (isExported z) (d ≡ false → (c ≡ false) × (h ≡ holds false m)) × If (isPendingExported z) (h ≡ holds true 0)
+
+-- another state in which the same is there
+pub there-as : (z to : State) → isIn to startableStates ≡ isIn z startableStates → (h : Holding) → There z h → There to h
+there-as z to e h t = subst (λ (b : Bool). nowhere b h) (sym e) t
+
+-- a state in which nothing is asked of the copy
+pub same-free : (z : State) → isExported z ≡ false → isPendingExported z ≡ false → (d c : Bool) (m : ℕ) (h : Holding) → Same z d c m h
+same-free z x y d c m h = (if-false _ (isExported z) x, if-false _ (isPendingExported z) y)
 
 -- no processor has a translation left that would write unseen: TLB epoch, Dirty, Cached, stamp
 abbrev pub Seen : ℕ → Bool → Bool → ℕ → Type 0
@@ -73,7 +83,8 @@ Still Blackout c b = (c ≡ false) × (b ≡ false)
 Still Done c b = Unit
 
 pub record Ok (k : Clock) (p : Page) (h : Holding) : Type 0 where
-  pub young : p .epoch ≤ k .epoch
+  pub known : strange p ≡ false
+  pub young : p .migrated ≤ k .epoch
   pub there : There (p .state) h
   pub same : Same (p .state) (p .dirty) (p .cached) (p .mark) h
   pub seen : Seen (k .tlb) (p .dirty) (p .cached) (p .stamp)
@@ -82,32 +93,15 @@ pub record Ok (k : Clock) (p : Page) (h : Holding) : Type 0 where
 -- a page may become another, with the session, while the destination stays
 pub record Step (k k' : Clock) (p q : Page) : Type 0 where
   pub ok : (h : Holding) → Ok k p h → Ok k' q h
-  pub kept : q .epoch ≡ p .epoch
+  pub kept : q .migrated ≡ p .migrated
 
 pub stay : (k : Clock) (p : Page) → Step k k p p
 stay k p = record { ok = λ h o. o; kept = refl }
 
 -- ---- what the moves use
 
--- a page that the destination may have something of is not strange
-pub not-strange : (p : Page) (h : Holding) → There (p .state) h → strange p ≡ false
-not-strange p h t = go (strange p) refl
-  where
-    go : (b : Bool) → strange p ≡ b → b ≡ false
-    go true e = absurd (rw (strange-state p e) at t)
-    go false e = refl
-
 pub seen-zero : (tlb : ℕ) (d c : Bool) → Seen tlb d c 0
 seen-zero tlb d c a b x = absurd (omega arith)
 
 pub seen-now : (tlb : ℕ) (d c : Bool) → Seen tlb d c tlb
 seen-now tlb d c a b x = absurd (omega arith)
-
--- what is asked only where a test holds
-abbrev pub If : Bool → Type 0 → Type 0
-If true A = A
-If false A = Unit
-
-pub if-true : {A : Type 0} (b : Bool) → b ≡ true → If b A → A
-if-true true e a = a
-if-true false e a = absurd (false≢true e)

@@ -4,7 +4,7 @@ use mathlib.Core.Path.{_≡_, refl, sym, ap, subst, _∙_}
 use mathlib.Core.Logic.{_⊎_, inl, inr, ⊎-elim}
 use mathlib.Core.Bool.{Bool, true, false, cond, _&&_, true≢false}
 use mathlib.Core.List.{List, [], _∷_, _++_, List·Memᴰ·head, Memᴰ·append-left, Memᴰ·append-right}
-use Prim.Native.Nat.{ℕ, zero, suc, _+_, _-_, _*_, _/_, _≤_, _<_}
+use Prim.Native.Nat.{ℕ, zero, suc, _+_, _-_, _*_, _/_, _^_, _≤_, _<_}
 use native.Mathlib.Omega.{arith}
 use native.Mathlib.Nat.{eq-or-lt-of-le}
 use native.Mathlib.Numerals.{add-one}
@@ -13,17 +13,15 @@ use lib.ListN.{length, set, take, length-set}
 use lib.Seq.{take-suc-set}
 use borrow.Author.Tests.{leb-true, eqb-true}
 use Rattle.words.specs.Codes as codes
-use Rattle.words.specs.Record.{room}
 use Rattle.refusals.proofs.Laws.{either, and-right}
 use Rattle.page.specs.Page.{pageOf, blocked}
-use Rattle.page.specs.declared.Page.{Page}
-use Rattle.page.specs.declared.records.PageWords.{PageWords}
+use Rattle.page.specs.Page.{Page}
+use Rattle.page.specs.declared.PageWords.{PageWords}
 use Rattle.table.specs.Table.{mostPages, pageCount, wordsAt, pageAt, putAt}
 use Rattle.table.proofs.Laws.{put-length, put-same, put-other}
 use Rattle.migration.specs.Grant.{Ready}
-use Rattle.scan.specs.Look.{listedPage, lookOf}
+use Rattle.scan.specs.Look.{Look, listedPage, lookOf}
 use Rattle.scan.specs.Scan.{stopCode, endCode, ScanOut, scanRun, partOf, patched, rangeRun}
-use Rattle.scan.specs.declared.looks.Look.{Look}
 use Rattle.scan.specs.declared.Scan.{Scan}
 use Rattle.scan.proofs.Laws.{stop-room, part-length, part-pages, and-false}
 use Rattle.scan.proofs.RangeLaws.{run-length, patched-in, part-in, range-out}
@@ -76,15 +74,15 @@ record Ran (scan : Scan) (n space : ℕ) (o : ScanOut) : Type 0 where
   how : Ending (scan .budget) space (o .scanned .code) at n
 
 -- a code that ends the run before the last page, where the page is not blocked
-stop-how : (scan : Scan) (f : Look) (i put space n : ℕ) → f .blocked ≡ false → put ≤ i → i < n → eqb (stopCode scan f i put space) 0 ≡ false → Ending (scan .budget) space (stopCode scan f i put space) i n
+stop-how : (scan : Scan) (blocked listed : Bool) (i put space n : ℕ) → blocked ≡ false → put ≤ i → i < n → eqb (stopCode scan blocked listed i put space) 0 ≡ false → Ending (scan .budget) space (stopCode scan blocked listed i put space) i n
 unfolding stopCode
-stop-how scan f i put space n b h l e = go (leb (scan .budget) i) refl (scan .checking && f .blocked) (rw b (and-false (scan .checking))) (f .listed && leb space put) refl e
+stop-how scan blocked listed i put space n b h l e = go (leb (scan .budget) i) refl (scan .checking && blocked) (rw b (and-false (scan .checking))) (listed && leb space put) refl e
   where
-    go : (x : Bool) → leb (scan .budget) i ≡ x → (y : Bool) → y ≡ false → (z : Bool) → (f .listed && leb space put) ≡ z → eqb (cond x codes.interrupted (cond y codes.memScanFailedBlockedRange (cond z codes.listFull 0))) 0 ≡ false → Ending (scan .budget) space (cond x codes.interrupted (cond y codes.memScanFailedBlockedRange (cond z codes.listFull 0))) i n
+    go : (x : Bool) → leb (scan .budget) i ≡ x → (y : Bool) → y ≡ false → (z : Bool) → (listed && leb space put) ≡ z → eqb (cond x codes.interrupted (cond y codes.memScanFailedBlockedRange (cond z codes.listFull 0))) 0 ≡ false → Ending (scan .budget) space (cond x codes.interrupted (cond y codes.memScanFailedBlockedRange (cond z codes.listFull 0))) i n
     go true p y q z r e = inr (inl (record { code = refl; spent = leb-true _ _ p; place = l }))
     go false p true q z r e = absurd (true≢false q)
     go false p false q true r e =
-        let k : space ≤ put = leb-true _ _ (and-right (f .listed) (leb space put) r) in
+        let k : space ≤ put = leb-true _ _ (and-right listed (leb space put) r) in
         inr (inr (record { code = refl; full = omega arith; place = l }))
     go false p false q false r e = absurd (true≢false e)
 
@@ -93,14 +91,14 @@ unfolding lookOf
 look-blocked w number tlb = refl
 
 -- page i is visited
-module _ (scan : Scan) (n space i put : ℕ) (part list : List ℕ) (tlb : scan .tlb < room) (fits : scan .first + n ≤ mostPages) (p : Passing scan n space i put part list) (l : i < n) where
+module _ (scan : Scan) (n space i put : ℕ) (part list : List ℕ) (tlb : scan .tlb < 2 ^ 16) (fits : scan .first + n ≤ mostPages) (p : Passing scan n space i put part list) (l : i < n) where
   abbrev look : Look
   look = lookOf (wordsAt part i) (scan .first + i) (scan .tlb)
 
   inside : i < pageCount part
   inside = rw (p .size) l
 
-  visited : stopCode scan look i put (length list) ≡ 0 → Passing scan n space (i + 1) (cond (look .listed) (put + 1) put) (cond (look .listed) (putAt part i (look .words)) part) (cond (look .listed) (set list put (look .word)) list)
+  visited : stopCode scan (look .blocked) (look .listed) i put (length list) ≡ 0 → Passing scan n space (i + 1) (cond (look .listed) (put + 1) put) (cond (look .listed) (putAt part i (look .words)) part) (cond (look .listed) (set list put (look .word)) list)
   unfolding lookOf
   visited e = go (look .listed) refl
     where
@@ -110,7 +108,7 @@ module _ (scan : Scan) (n space i put : ℕ) (part list : List ℕ) (tlb : scan 
       written : put < length list → take (put + 1) (set list put (look .word)) ≡ words
       written h = rw (add-one put) (take-suc-set list put (look .word) h)
 
-      page : pageAt (putAt part i (look .words)) i ≡ listedPage (pageAt part i) (scan .tlb)
+      page : pageAt (putAt part i (look .words)) i ≡ listedPage (scan .tlb) (pageAt part i)
       page = ap pageOf (put-same part i (look .words) inside) ∙ look-page (wordsAt part i) (scan .first + i) (scan .tlb) tlb
 
       other : (j : ℕ) → (j ≡ i → ⊥) → pageAt (putAt part i (look .words)) j ≡ pageAt part j
@@ -121,7 +119,7 @@ module _ (scan : Scan) (n space i put : ℕ) (part list : List ℕ) (tlb : scan 
 
       go : (b : Bool) → look .listed ≡ b → Passing scan n space (i + 1) (cond b (put + 1) put) (cond b (putAt part i (look .words)) part) (cond b (set list put (look .word)) list)
       go true q =
-          let h : put < length list = stop-room scan look i put (length list) e q in
+          let h : put < length list = stop-room scan (look .blocked) (look .listed) i put (length list) e q in
           record {
             size = ap (λ (x : ℕ). x / 2) (put-length part i (look .words)) ∙ p .size;
             long = length-set list put (look .word) ∙ p .long;
@@ -149,7 +147,7 @@ module _ (scan : Scan) (n space i put : ℕ) (part list : List ℕ) (tlb : scan 
             ahead = λ j k m. p .ahead j (omega (arith, k)) m;
           }
 
-run-ran : (left : ℕ) (scan : Scan) (n space i put : ℕ) (part list : List ℕ) → scan .checking ≡ true → scan .tlb < room → scan .first + n ≤ mostPages → i + left ≡ n → Passing scan n space i put part list → Ran scan n space (scanRun left scan i put part list)
+run-ran : (left : ℕ) (scan : Scan) (n space i put : ℕ) (part list : List ℕ) → scan .checking ≡ true → scan .tlb < 2 ^ 16 → scan .first + n ≤ mostPages → i + left ≡ n → Passing scan n space i put part list → Ran scan n space (scanRun left scan i put part list)
 unfolding scanRun endCode
 run-ran zero scan n space i put part list c tlb fits e p =
     record { at = i; next = refl; passing = p; how = inl (record { code = rw c; place = omega arith }) }
@@ -157,9 +155,9 @@ run-ran (suc left) scan n space i put part list c tlb fits e p =
     let f = lookOf (wordsAt part i) (scan .first + i) (scan .tlb) in
     let l : i < n = omega arith in
     let calm : Calm (pageAt part i) = p .ahead i (omega arith) l in
-    either (λ (o : ScanOut). Ran scan n space o) (eqb (stopCode scan f i put (length list)) 0)
+    either (λ (o : ScanOut). Ran scan n space o) (eqb (stopCode scan (f .blocked) (f .listed) i put (length list)) 0)
     (λ z. run-ran left scan n space (i + 1) _ _ _ c tlb fits (omega arith) (visited scan n space i put part list tlb fits p l (eqb-true _ _ z)))
-    (λ z. record { at = i; next = refl; passing = p; how = subst (λ (x : ℕ). Ending (scan .budget) x (stopCode scan f i put (length list)) i n) (p .long) (stop-how scan f i put (length list) n (look-blocked (wordsAt part i) (scan .first + i) (scan .tlb) ∙ calm .unblocked) (p .few) l z) })
+    (λ z. record { at = i; next = refl; passing = p; how = subst (λ (x : ℕ). Ending (scan .budget) x (stopCode scan (f .blocked) (f .listed) i put (length list)) i n) (p .long) (stop-how scan (f .blocked) (f .listed) i put (length list) n (look-blocked (wordsAt part i) (scan .first + i) (scan .tlb) ∙ calm .unblocked) (p .few) l z) })
 
 -- ---- in the table
 
@@ -176,7 +174,7 @@ module _ (count : ℕ) (scan : Scan) (t l : List ℕ) (fits : 2 * scan .first + 
   abbrev part : List ℕ
   part = partOf t (scan .first) count
 
-  pub range-swept : scan .checking ≡ true → scan .tlb < room → scan .first + count ≤ mostPages → ((k : ℕ) → k < pageCount t → Calm (pageAt t k)) → Swept scan count t l (rangeRun count scan t l)
+  pub range-swept : scan .checking ≡ true → scan .tlb < 2 ^ 16 → scan .first + count ≤ mostPages → ((k : ℕ) → k < pageCount t → Calm (pageAt t k)) → Swept scan count t l (rangeRun count scan t l)
   unfolding rangeRun
   range-swept c tlb most calm =
       let start : Passing scan count (length l) 0 0 part l

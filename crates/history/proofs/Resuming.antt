@@ -17,17 +17,17 @@ use Rattle.words.specs.declared.infos.Info.{Info}
 use Rattle.words.proofs.InfoLaws.{info-fits}
 use Rattle.refusals.proofs.Laws.{either}
 use Rattle.table.specs.Table.{pageCount, pageAt}
-use Rattle.session.specs.Session.{among, moving, resting, streamPlaces, runOf, withRun}
-use Rattle.session.specs.Formed.{formed, mostEntries, runResting}
+use Rattle.session.specs.Session.{among, moving, resting, streamPlaces, workOf, withWork}
+use Rattle.session.specs.Formed.{formed, mostEntries, workResting}
 use Rattle.session.specs.declared.Phase.the-variants.{Blackout}
 use Rattle.session.specs.declared.Session.{Session}
-use Rattle.session.specs.declared.streams.Run.{Run}
+use Rattle.session.specs.declared.streams.Work.{Work}
 use Rattle.session.specs.declared.streams.Stream.{Stream}
-use Rattle.session.specs.declared.streams.Run.the-variants.{AtRest, Interrupted}
+use Rattle.session.specs.declared.streams.Work.the-variants.{AtRest, Interrupted}
 use Rattle.session.proofs.Laws.{open-gate}
 use Rattle.session.proofs.FormedLaws.{formed-means, means-busy}
 use Rattle.export.specs.Run.{Standing, standing}
-use Rattle.export.specs.Export.{noResumption, noNewCall, notFrom0, exportTests, exportCode, groundOf, begunBy, nextFirst, doneBy, interruptedBy, finishedBy, ExportOutcome, ranExport, exportOut}
+use Rattle.export.specs.Export.{noResumption, noNewCall, notFrom0, exportTests, exportCode, groundOf, begunBy, doneBy, interruptedBy, finishedBy, ExportOutcome, ranExport, exportOut}
 use Rattle.export.specs.declared.ExportAnswer.{ExportAnswer}
 use Rattle.export.proofs.Moves as moves
 use Rattle.calls.specs.Calls.{exportEffect}
@@ -40,7 +40,7 @@ use Rattle.history.proofs.Waiting.{Listed, Short, Left}
 use Rattle.history.proofs.Ahead.{Ahead, Waits, waits-map, none-ahead, Along, call-along, run-far}
 
 -- a new call finds its stream at rest and begins with entry 0; a resumed one finds it interrupted at its own FIRST and LAST
-abbrev Finds : Bool → ℕ → ℕ → Run → Type 0
+abbrev Finds : Bool → ℕ → ℕ → Work → Type 0
 Finds resume next last AtRest = (resume ≡ false) × (next ≡ 0)
 Finds resume next last (Interrupted first end errors pages) = (resume ≡ true) × (first ≡ next) × (end ≡ last)
 
@@ -53,8 +53,8 @@ module _ (n stream entries : ℕ) (rest : List (List ℕ)) where
     pub complete : w .session .check .complete ≡ true
     pub created : w .session .created ≡ n
     -- the other streams are at rest
-    pub others : (i : ℕ) → i < streamPlaces → (i ≡ stream → ⊥) → runResting (getD (w .session .streams) i resting .run) ≡ true
-    pub run : Finds resume next (infoOf info .last) (runOf (w .session) stream)
+    pub others : (i : ℕ) → i < streamPlaces → (i ≡ stream → ⊥) → workResting (getD (w .session .streams) i resting .work) ≡ true
+    pub work : Finds resume next (infoOf info .last) (workOf (w .session) stream)
     pub format : infoOf info .format ≡ 0
     pub zeros : infoOf info .zero52 ≡ 0
     pub first : infoOf info .first ≡ next
@@ -77,7 +77,7 @@ module _ (n stream entries : ℕ) (rest : List (List ℕ)) where
 
       -- ---- the call is accepted
 
-      stands : (r : Run) → Finds resume next (x .last) r → (noResumption resume r x ≡ false) × (noNewCall resume r ≡ false) × (notFrom0 resume x ≡ false)
+      stands : (r : Work) → Finds resume next (x .last) r → (noResumption resume r x ≡ false) × (noNewCall resume r ≡ false) × (notFrom0 resume x ≡ false)
       stands AtRest e = (rw (e .0), rw (e .0), rw (e .0, k .first, e .1))
       stands (Interrupted first end errors pages) e =
           (rw (e .0, eq-eqb (x .first) first (k .first ∙ sym (e .1)), eq-eqb (x .last) end (sym (e .2))), rw (e .0), rw (e .0))
@@ -85,7 +85,7 @@ module _ (n stream entries : ℕ) (rest : List (List ℕ)) where
       accepted : exportCode s (length (w .table)) (length l) (length b) stream resume x ≡ 0
       unfolding exportCode
       accepted =
-          let stand = stands (runOf s stream) (k .run) in
+          let stand = stands (workOf s stream) (k .work) in
           open-gate s (length (w .table)) moving (exportTests s (length l) (length b) stream resume x)
           (record {
             formed = k .formed;
@@ -134,23 +134,23 @@ module _ (n stream entries : ℕ) (rest : List (List ℕ)) where
           ((o .answer .code ≡ codes.done) × Left (leftBy w g (exportEffect o)) n rest)
           ⊎ ((o .answer .code ≡ codes.interrupted) × ((at : ℕ) × (next + budget ≤ at) × Going (leftBy w g (exportEffect o)) true (o .answer .info) (o .list) (o .buffer) at))
 
-      set-run : (r : Run) → withRun s stream r ≡ withStreams s (set (s .streams) stream (record { run = r }))
-      unfolding withRun
+      set-run : (r : Work) → withWork s stream r ≡ withStreams s (set (s .streams) stream (record { work = r }))
+      unfolding withWork
       set-run r = rw (lt-ltb stream streamPlaces low)
 
-      run-here : (r : Run) → getD (withRun s stream r .streams) stream resting .run ≡ r
+      run-here : (r : Work) → getD (withWork s stream r .streams) stream resting .work ≡ r
       run-here r =
-          rw (set-run r) (ap (λ (z : Stream). z .run) (getD-set-same (s .streams) stream (record { run = r }) resting (omega (arith, low, k .streams))))
+          rw (set-run r) (ap (λ (z : Stream). z .work) (getD-set-same (s .streams) stream (record { work = r }) resting (omega (arith, low, k .streams))))
 
-      run-set : (r : Run) → runOf (withRun s stream r) stream ≡ r
-      unfolding runOf
+      run-set : (r : Work) → workOf (withWork s stream r) stream ≡ r
+      unfolding workOf
       run-set r = rw (lt-ltb stream streamPlaces low) (run-here r)
 
-      run-others : (r : Run) (i : ℕ) → i < streamPlaces → (i ≡ stream → ⊥) → runResting (getD (withRun s stream r .streams) i resting .run) ≡ true
+      run-others : (r : Work) (i : ℕ) → i < streamPlaces → (i ≡ stream → ⊥) → workResting (getD (withWork s stream r .streams) i resting .work) ≡ true
       run-others r i h ne =
-          rw (set-run r, getD-set-other (s .streams) stream i (record { run = r }) resting ne) (k .others i h ne)
+          rw (set-run r, getD-set-other (s .streams) stream i (record { work = r }) resting ne) (k .others i h ne)
 
-      all-rest : (i : ℕ) → i < streamPlaces → runResting (getD (withRun s stream AtRest .streams) i resting .run) ≡ true
+      all-rest : (i : ℕ) → i < streamPlaces → workResting (getD (withWork s stream AtRest .streams) i resting .work) ≡ true
       all-rest i h =
           elim (ℕ-discrete i stream) [
             | yes e ↦ rw (e, run-here AtRest)
@@ -164,7 +164,7 @@ module _ (n stream entries : ℕ) (rest : List (List ℕ)) where
             record {
               formed = kept .0;
               phase = rw (set-run AtRest) (k .phase);
-              rest = means-busy (withRun s stream AtRest) all-rest;
+              rest = means-busy (withWork s stream AtRest) all-rest;
               streams = kept .1;
               complete = rw (set-run AtRest) (k .complete);
               created = rw (set-run AtRest) (k .created);
@@ -174,18 +174,16 @@ module _ (n stream entries : ℕ) (rest : List (List ℕ)) where
           )
 
       next-info : left .at .next ≤ x .last → infoOf (interruptedBy s stream x (left .at) .info) ≡ withFirst x (left .at .next)
-      unfolding nextFirst
-      next-info q =
-          rw (le-ltb (x .last) (left .at .next) q) (info-back info (left .at .next) (omega (arith, q, info-fits info .last)))
+      next-info q = info-back info (left .at .next) (omega (arith, q, info-fits info .last))
 
       goes-on : left .at .next ≤ x .last → Kept (ran (interruptedBy s stream x (left .at))) → Came (ran (interruptedBy s stream x (left .at)))
       goes-on q kept =
-          let r = Interrupted (left .at .next) (x .last) (left .at .errors) (left .at .pages) in
+          let r = Interrupted (left .at .next) (x .last) (left .at .errors) (left .at .filled) in
           inr (
             refl,
             (
               left .at .next,
-              ⊎-elim (λ far. omega (arith, far, begins s (length (w .table)) (length l) (length b) stream resume x accepted, k .first)) (λ end. absurd (omega (arith, end, q))) (run-far (groundOf s) (x .last) budget (standing (begunBy (runOf s stream)) (w .table) l b)),
+              ⊎-elim (λ far. omega (arith, far, begins s (length (w .table)) (length l) (length b) stream resume x accepted, k .first)) (λ end. absurd (omega (arith, end, q))) (run-far (groundOf s) (x .last) budget (standing (begunBy (workOf s stream)) (w .table) l b)),
               record {
                 formed = kept .0;
                 phase = rw (set-run r) (k .phase);
@@ -193,7 +191,7 @@ module _ (n stream entries : ℕ) (rest : List (List ℕ)) where
                 complete = rw (set-run r) (k .complete);
                 created = rw (set-run r) (k .created);
                 others = run-others r;
-                run = rw (run-set r, next-info q) (refl, refl, refl);
+                work = rw (run-set r, next-info q) (refl, refl, refl);
                 format = rw (next-info q) (k .format);
                 zeros = rw (next-info q) (k .zeros);
                 first = rw (next-info q);

@@ -3,25 +3,24 @@ use mathlib.Core.Path.{_≡_, refl, sym, _∙_}
 use mathlib.Core.Logic.{inl, inr}
 use mathlib.Core.Bool.{Bool, true, false, true≢false}
 use mathlib.Core.List.{List, [], _∷_, _++_}
-use Prim.Native.Nat.{ℕ, _+_, _*_, _≤_, _<_}
+use Prim.Native.Nat.{ℕ, _+_, _*_, _^_, _≤_, _<_}
 use native.Mathlib.Omega.{arith}
 use native.Mathlib.Decide.{ℕ-discrete}
 use lib.Dec.{eqb}
 use lib.ListN.{length}
 use borrow.Author.Tests.{eqb-true}
-use Rattle.words.specs.Record.{room}
-use Rattle.page.specs.Sweeps.{sweptBy, sweptWords, unlessStrange}
-use Rattle.page.specs.declared.Page.{Page}
+use Rattle.page.specs.Page.{onWords, unlessStrange}
+use Rattle.page.specs.Sweeps.{sweptBy}
+use Rattle.page.specs.Page.{Page}
 use Rattle.page.specs.declared.moves.Move.{Move}
 use Rattle.page.specs.declared.sweeps.Sweep.{Sweep}
-use Rattle.page.proofs.MoveLaws.{sweep-becomes}
+use Rattle.page.proofs.MoveLaws.{swept-held}
 use Rattle.table.specs.Table.{pageCount, wordsAt, pageAt, putAt, sweepOf}
-use Rattle.table.proofs.Laws.{put-length, sweep-length, page-sweep}
+use Rattle.table.proofs.Laws.{put-length, sweep-length, page-swept}
 use Rattle.session.specs.Outcome.{Outcome}
 use Rattle.session.specs.declared.Session.{Session}
-use Rattle.session.proofs.Laws.{answered-either}
-use Rattle.memory.specs.Memory.{pageTurn, onPage}
-use Rattle.memory.proofs.Laws.{page-done, page-other}
+use Rattle.memory.specs.Memory.{onPage}
+use Rattle.memory.proofs.Laws.{page-either, page-done, page-other}
 use Rattle.scan.specs.Look.{lookOf, LookedAt}
 use Rattle.scan.specs.Scan.{rangeRun}
 use Rattle.scan.specs.declared.Scan.{Scan}
@@ -43,17 +42,11 @@ pub record Steps (k k' : Clock) (t t' : List ℕ) : Type 0 where
 -- ---- a call on one page
 
 page-kept : (m : Move) (s : Session) (t : List ℕ) (at : ℕ) → eqb (onPage m s t at .answer .code) 0 ≡ false → onPage m s t at .table ≡ t
-unfolding onPage
 page-kept m s t at =
-    let turn = pageTurn m s (length t) at (wordsAt t at) in
-    answered-either (λ (o : Outcome). eqb (o .answer .code) 0 ≡ false → o .table ≡ t) (turn .code) s t s (putAt t at (turn .words))
-    (λ q e. absurd (true≢false (sym q ∙ e))) (λ q e. refl)
+    page-either m s t at (λ (o : Outcome). eqb (o .answer .code) 0 ≡ false → o .table ≡ t) (λ d e. absurd (true≢false e)) (λ q e. refl)
 
 page-length : (m : Move) (s : Session) (t : List ℕ) (at : ℕ) → length (onPage m s t at .table) ≡ length t
-unfolding onPage
-page-length m s t at =
-    let turn = pageTurn m s (length t) at (wordsAt t at) in
-    answered-either (λ (o : Outcome). length (o .table) ≡ length t) (turn .code) s t s (putAt t at (turn .words)) (λ q. put-length t at (turn .words)) (λ q. refl)
+page-length m s t at = page-either m s t at (λ (o : Outcome). length (o .table) ≡ length t) (λ d. put-length t at _) (λ q. refl)
 
 pub page-steps : (m : Move) (s : Session) (t : List ℕ) (at : ℕ) → Steps (clockOf s) (clockOf s) t (onPage m s t at .table)
 page-steps m s t at = record { size = page-length m s t at; at = λ i h. elim (ℕ-discrete i at) [ yes e ↦ same i e | no ne ↦ other i ne ] }
@@ -63,8 +56,8 @@ page-steps m s t at = record { size = page-length m s t at; at = λ i h. elim (�
 
     here : (b : Bool) → eqb (o .answer .code) 0 ≡ b → Step (clockOf s) (clockOf s) (pageAt t at) (pageAt (o .table) at)
     here true q =
-        let p = call-done m s t at q in
-        rw (page-done m s t at (eqb-true _ _ q)) (move-step m (clockOf s) (p .0) (pageAt t at) (eqb-true _ _ (p .1)))
+        let d = call-done m s t at q in
+        rw (page-done m s t at (eqb-true _ _ q)) (move-step (clockOf s) (d .comes) (pageAt t at) m (d .moves))
     here false q = rw (page-kept m s t at q) (stay (clockOf s) (pageAt t at))
 
     same : (i : ℕ) → i ≡ at → Step (clockOf s) (clockOf s) (pageAt t i) (pageAt (o .table) i)
@@ -77,18 +70,18 @@ page-steps m s t at = record { size = page-length m s t at; at = λ i h. elim (�
 
 -- the table that a sweep leaves
 abbrev pub swept : Sweep → List ℕ → List ℕ
-swept k t = sweepOf (sweptWords (sweptBy k)) (pageCount t) t
+swept k t = sweepOf (onWords (sweptBy k)) t
 
 pub swept-length : (k : Sweep) (t : List ℕ) → length (swept k t) ≡ length t
-swept-length k t = sweep-length (sweptWords (sweptBy k)) t (pageCount t)
+swept-length k t = sweep-length (onWords (sweptBy k)) t
 
 swept-page : (k : Sweep) (t : List ℕ) (i : ℕ) → i < pageCount t → pageAt (swept k t) i ≡ unlessStrange (sweptBy k) (pageAt t i)
-swept-page k t i h = page-sweep (sweptBy k) (sweep-becomes k) t i h
+swept-page k t i h = page-swept (sweptBy k) (swept-held k) t i h
 
 pub sweep-steps : (x : Sweep) (k k' : Clock) (t : List ℕ) → ((i : ℕ) → i < pageCount t → Step k k' (pageAt t i) (unlessStrange (sweptBy x) (pageAt t i))) → Steps k k' t (swept x t)
 sweep-steps x k k' t s = record { size = swept-length x t; at = λ i h. rw (swept-page x t i h) (s i h) }
 
-pub scan-steps : (k : Clock) (count : ℕ) (scan : Scan) (t l : List ℕ) → scan .tlb ≡ k .tlb → k .tlb < room → 2 * scan .first + 2 * count ≤ length t → Steps k k t (rangeRun count scan t l .part)
+pub scan-steps : (k : Clock) (count : ℕ) (scan : Scan) (t l : List ℕ) → scan .tlb ≡ k .tlb → k .tlb < 2 ^ 16 → 2 * scan .first + 2 * count ≤ length t → Steps k k t (rangeRun count scan t l .part)
 unfolding lookOf
 scan-steps k count scan t l e small fits =
     record { size = range-length count scan t l; at = λ i h. look i (range-page count scan t l fits i) }
@@ -96,14 +89,14 @@ scan-steps k count scan t l e small fits =
     look : (i : ℕ) → LookedAt i (scan .tlb) (wordsAt t i) (wordsAt (rangeRun count scan t l .part) i) → Step k k (pageAt t i) (pageAt (rangeRun count scan t l .part) i)
     look i (inl q) = rw q (stay k (pageAt t i))
     look i (inr q) =
-        rw (q .1, e, look-page (wordsAt t i) i (k .tlb) small) (listed-step k (pageAt t i) (q .0))
+        rw (q .1, e, look-page (wordsAt t i) i (k .tlb) small) (listed-step k (pageAt t i))
 
 -- ---- the invariant of a table
 
 pub record Row (k : Clock) (log : List Sent) (i : ℕ) (p : Page) : Type 0 where
   pub has : Holding
   pub ok : Ok k p has
-  pub past : Past i log (p .epoch) has
+  pub past : Past i log (p .migrated) has
 
 abbrev pub Rows : Clock → List Sent → List ℕ → Type 0
 Rows k log t = (i : ℕ) → i < pageCount t → Row k log i (pageAt t i)
@@ -114,7 +107,7 @@ rows-steps log {t} {t'} s r i h =
     record { has = r i h' .has; ok = s .at i h' .ok (r i h' .has) (r i h' .ok); past = rw (s .at i h' .kept) (r i h' .past) }
 
 -- every page anew, with nothing at the destination
-pub rows-anew : (x : Sweep) (k k' : Clock) (log : List Sent) (t : List ℕ) → ((i : ℕ) → i < pageCount t → (h : Holding) → Ok k (pageAt t i) h → Ok k' (unlessStrange (sweptBy x) (pageAt t i)) absent × (unlessStrange (sweptBy x) (pageAt t i) .epoch ≡ 0)) → Rows k log t → Rows k' [] (swept x t)
+pub rows-anew : (x : Sweep) (k k' : Clock) (log : List Sent) (t : List ℕ) → ((i : ℕ) → i < pageCount t → (h : Holding) → Ok k (pageAt t i) h → Ok k' (unlessStrange (sweptBy x) (pageAt t i)) absent × (unlessStrange (sweptBy x) (pageAt t i) .migrated ≡ 0)) → Rows k log t → Rows k' [] (swept x t)
 rows-anew x k k' log t o r i h =
     let h' : i < pageCount t = rw (swept-length x t) at h in
     let y = o i h' (r i h' .has) (r i h' .ok) in

@@ -1,24 +1,18 @@
 -- At a grant every page is ready, so what the log says of it is what the table holds; and no entry names a page beyond the table.
-use mathlib.Core.Path.{_≡_, refl, sym, ap, _∙_}
+use mathlib.Core.Path.{_≡_, sym, ap, _∙_}
 use mathlib.Core.Bool.{true}
-use mathlib.Core.List.{List, [], _∷_, Permᴰ·refl}
+use mathlib.Core.List.{List, Permᴰ·refl}
 use Prim.Native.Nat.{ℕ, _≤_, _<_}
 use native.Mathlib.Omega.{arith}
 use native.Mathlib.Decide.{decLt}
-use lib.ListN.{length}
 use borrow.Author.Tests.{eqb-true, le-ltb}
-use Rattle.words.specs.Record.{recordOf, plain}
-use Rattle.states.specs.States.{stateOf}
+use Rattle.records.specs.Record.{recordOf, plain}
+use Rattle.states.specs.States.{stateOf, isIn}
 use Rattle.page.specs.Page.{pageOf}
 use Rattle.table.specs.Table.{pageCount, wordsAt, pageAt}
 use Rattle.session.specs.declared.Phase.{Phase}
-use Rattle.session.specs.declared.Phase.the-variants.{Blackout}
-use Rattle.session.specs.declared.Session.{Session}
-use Rattle.session.proofs.Laws.{gate-open}
-use Rattle.migration.specs.Token.{tokenNumber, tokenTests, tokenCode, tokenOut}
 use Rattle.migration.specs.Grant.{Grantable}
-use Rattle.migration.proofs.Laws.{token-number}
-use Rattle.migration.proofs.Grant.{code-granted, granted-exactly}
+use Rattle.migration.proofs.Grant.{granted-exactly}
 use Rattle.bundle.specs.Bundle.{absent, Sent, nothing, replay, Order}
 use Rattle.bundle.proofs.Replay.{none-past, replay-past, perm-reordered, at-turn, perm-once}
 use Rattle.history.specs.History.{World, History, atEnd}
@@ -33,16 +27,8 @@ use Rattle.history.proofs.Memory.{remembers, frozen}
 
 -- ---- the grant
 
-token-code : (s : Session) (t : List ℕ) → tokenNumber (tokenOut s t .token) ≡ 0 → tokenCode s t ≡ 0
-unfolding tokenOut
-token-code s t e = sym (token-number (tokenCode s t) t) ∙ e
-
 granted-means : (w : World) → granted w ≡ true → Grantable (w .session) (w .table)
-unfolding tokenCode
-granted-means w x =
-    let e : tokenCode (w .session) (w .table) ≡ 0 = token-code (w .session) (w .table) (eqb-true _ _ x) in
-    let o = gate-open (w .session) (length (w .table)) (Blackout ∷ []) (tokenTests (w .session) (w .table)) refl e in
-    granted-exactly .only (w .session) (w .table) (o .formed) (code-granted (w .session) (w .table) e)
+granted-means w x = granted-exactly .only (w .session) (w .table) (eqb-true _ _ x)
 
 -- in Blackout the whole log counts
 granted-fine : (w : World) → granted w ≡ true → Sound w → Fine (clockOf (w .session)) (w .log) (w .table)
@@ -51,7 +37,7 @@ granted-fine w x f = rw (ap (λ (p : Phase). since p (w .log)) (granted-means w 
 -- ---- a page of the table, and one beyond it
 
 beyond-absent : (t : List ℕ) (i : ℕ) → pageCount t ≤ i → content (pageAt t i) ≡ absent
-unfolding wordsAt pageOf plain recordOf stateOf
+unfolding wordsAt pageOf plain recordOf stateOf isIn
 beyond-absent t i h = rw (le-ltb i (pageCount t) h)
 
 pub safe-beyond : (h : History) → granted (atEnd h) ≡ true → (l : List Sent) → Order (atEnd h .log) l → (i : ℕ) → pageCount (atEnd h .table) ≤ i → replay nothing l i ≡ absent

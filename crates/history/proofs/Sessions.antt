@@ -1,26 +1,25 @@
 -- A session that a call makes of a well-formed one is well-formed for a table of the same length: pages and N stay, and its epochs, its check and its streams
 -- are shown apart, each as it was or as the call makes it.
-use mathlib.Core.Path.{_≡_, refl, sym, ap, _∙_}
-use mathlib.Core.Bool.{Bool, true, false, not, _&&_, true≢false, false≢true}
+use mathlib.Core.Path.{_≡_, refl, sym, ap, subst, _∙_}
+use mathlib.Core.Bool.{Bool, true, false, not, true≢false, false≢true}
 use mathlib.Core.List.{List, [], _∷_}
 use Prim.Native.Nat.{ℕ, zero, suc, _+_, _*_, _/_, _%_, _≤_, _<_}
 use native.Mathlib.Omega.{arith}
 use lib.Dec.{eqb, leb}
 use lib.ListN.{getD, set, getD-replicate}
 use borrow.Author.Tests.{lt-ltb, leb-true, eqb-true, eqb-false}
-use Rattle.refusals.proofs.Laws.{and-left, and-right, not-true}
+use Rattle.refusals.proofs.Laws.{not-true}
 use Rattle.table.specs.Table.{legal, mostPages}
-use Rattle.session.specs.Session.{among, moving, unchecked, resting, streamPlaces, atRest, newSession, begun, withPhase, withTlb, withEpoch, withCheck, withRun}
-use Rattle.session.specs.Formed.{lastEpoch, fewestCreated, mostCreated, within, runFormed, runResting, usable, streamIs, busy}
+use Rattle.session.specs.Session.{among, moving, unchecked, resting, streamPlaces, atRest, workAt, newSession, begun, withPhase, withTlb, withEpoch, withCheck, withWork}
+use Rattle.session.specs.Formed.{lastEpoch, fewestCreated, mostCreated, within, workResting, busy}
 use Rattle.session.specs.declared.Phase.{Phase}
 use Rattle.session.specs.declared.Phase.the-variants.{Idle, Live, Blackout, Done}
 use Rattle.session.specs.declared.Check.{Check}
 use Rattle.session.specs.declared.Session.{Session}
 use Rattle.session.specs.declared.streams.Stream.{Stream}
-use Rattle.session.specs.declared.streams.Run.{Run}
-use Rattle.session.specs.declared.streams.Run.the-variants.{AtRest, Interrupted}
-use Rattle.session.specs.declared.streams.Asked.the-variants as asked
-use Rattle.session.proofs.FormedLaws.{Within, Formed, busy-means}
+use Rattle.session.specs.declared.streams.Work.{Work}
+use Rattle.session.specs.declared.streams.Work.the-variants.{AtRest, Interrupted}
+use Rattle.session.proofs.FormedLaws.{every-hold, Within, WorkFormed, Streaming, Formed, busy-means}
 
 -- ---- the parts that calls change
 
@@ -33,9 +32,6 @@ pub record Placed (c : Check) (pages : ℕ) : Type 0 where
   pub place : c .place ≤ pages
   pub complete : c .complete ≡ true → c .place ≡ pages
   pub apart : c .complete ≡ true → c .failed ≡ false
-
-abbrev Streaming : Session → Type 0
-Streaming s = (i : ℕ) → i < streamPlaces → streamIs asked.Formed s i ≡ true
 
 module _ {s : Session} {len : ℕ} (f : Formed s len) where
   timed : Timed (s .phase) (s .tlb) (s .epoch)
@@ -80,8 +76,8 @@ not-idle l p a e q = true≢false (sym e ∙ ap (among l) q ∙ a)
 unchecked-placed : (pages : ℕ) → Placed unchecked pages
 unchecked-placed pages = record { place = omega arith; complete = λ q. absurd (false≢true q); apart = λ q. refl }
 
-rest-formed : (may : Bool) (i : ℕ) → i < streamPlaces → runFormed may (getD atRest i resting .run) ≡ true
-rest-formed may i h = ap (λ (z : Stream). runFormed may (z .run)) (getD-replicate streamPlaces i resting resting h)
+rest-formed : (moves : Bool) (created i : ℕ) → i < streamPlaces → WorkFormed moves created i (getD atRest i resting .work)
+rest-formed moves created i h = rw (getD-replicate streamPlaces i resting resting h) tt
 
 -- ---- the sessions
 
@@ -95,13 +91,13 @@ pub start-formed : {s : Session} {len : ℕ} → Formed s len → Formed (begun 
 start-formed {s} f =
     again f (begun s Live 1) refl refl
     (record { tlb = f .tlb; idle = λ q. absurd (not-idle moving Live refl refl q); begun = λ n. record { low = omega arith; high = omega arith } })
-    (unchecked-placed (s .pages)) (λ i. rest-formed (usable s i) i)
+    (unchecked-placed (s .pages)) (rest-formed true (s .created))
 
 pub abort-formed : {s : Session} {len : ℕ} → Formed s len → Formed (begun s Idle 0) len
 abort-formed {s} f =
     again f (begun s Idle 0) refl refl
     (record { tlb = f .tlb; idle = λ q. refl; begun = λ n. absurd (n refl) })
-    (unchecked-placed (s .pages)) (λ i. rest-formed false i)
+    (unchecked-placed (s .pages)) (rest-formed false (s .created))
 
 -- streams may be interrupted in Blackout as in Live
 pub pause-formed : {s : Session} {len : ℕ} → Formed s len → among (Live ∷ []) (s .phase) ≡ true → Formed (withPhase s Blackout) len
@@ -110,7 +106,7 @@ pause-formed {s} f e =
     again f (withPhase s Blackout) refl refl
     (record { tlb = f .tlb; idle = λ q. absurd (not-idle moving Blackout refl refl q); begun = λ n. f .begun (not-idle (Live ∷ []) (s .phase) refl e) })
     (placed f)
-    (λ i h. ap (λ (p : Phase). runFormed (among moving p && usable s i) (getD (s .streams) i resting .run)) (sym live) ∙ f .streams i h)
+    (λ i h. subst (λ (p : Phase). WorkFormed (among moving p) (s .created) i (workAt s i)) live (f .streams i h))
 
 pub epoch-formed : {s : Session} {len : ℕ} → Formed s len → among moving (s .phase) ≡ true → s .epoch < lastEpoch → Formed (withEpoch s (s .epoch + 1)) len
 epoch-formed {s} f e h =
@@ -125,16 +121,16 @@ pub reset-formed : {s : Session} {len : ℕ} → Formed s len → Formed (withCh
 reset-formed {s} f = check-formed f unchecked (unchecked-placed (s .pages))
 
 -- in Done no stream is interrupted, since none was
-resting-formed : (may : Bool) (r : Run) → runResting r ≡ true → runFormed may r ≡ true
-resting-formed may AtRest e = refl
-resting-formed may (Interrupted next last errors pages) e = absurd (false≢true e)
+resting-formed : (created i : ℕ) (r : Work) → workResting r ≡ true → WorkFormed false created i r
+resting-formed created i AtRest e = tt
+resting-formed created i (Interrupted next last errors filled) e = absurd (false≢true e)
 
 pub token-formed : {s : Session} {len : ℕ} → Formed s len → among (Blackout ∷ []) (s .phase) ≡ true → busy s ≡ false → Formed (withPhase s Done) len
 token-formed {s} f e rest =
     again f (withPhase s Done) refl refl
     (record { tlb = f .tlb; idle = λ q. absurd (not-idle (Done ∷ []) Done refl refl q); begun = λ n. f .begun (not-idle (Blackout ∷ []) (s .phase) refl e) })
     (placed f)
-    (λ i h. resting-formed false (getD (s .streams) i resting .run) (busy-means s rest i h))
+    (λ i h. resting-formed (s .created) i (workAt s i) (busy-means s rest i h))
 
 -- ---- one stream
 
@@ -146,14 +142,14 @@ set-stream P (y ∷ l) zero (suc k) x new old = old
 set-stream P (y ∷ l) (suc i) zero x new old = old
 set-stream P (y ∷ l) (suc i) (suc k) x new old = set-stream P l i k x (λ e. new (ap suc e)) old
 
-pub run-formed : {s : Session} {len : ℕ} → Formed s len → (i : ℕ) → i < streamPlaces → (r : Run) → runFormed (among moving (s .phase) && usable s i) r ≡ true → Formed (withRun s i r) len
-unfolding withRun
+pub run-formed : {s : Session} {len : ℕ} → Formed s len → (i : ℕ) → i < streamPlaces → (r : Work) → WorkFormed (among moving (s .phase)) (s .created) i r → Formed (withWork s i r) len
+unfolding withWork
 run-formed {s} f i h r e =
     rw (lt-ltb i streamPlaces h)
-    (again f (record { phase = s .phase; pages = s .pages; tlb = s .tlb; epoch = s .epoch; created = s .created; check = s .check; streams = set (s .streams) i (record { run = r }) }) refl refl
+    (again f (record { phase = s .phase; pages = s .pages; tlb = s .tlb; epoch = s .epoch; created = s .created; check = s .check; streams = set (s .streams) i (record { work = r }) }) refl refl
     (timed f) (placed f)
     (λ k b.
-    set-stream (λ (z : Stream). runFormed (among moving (s .phase) && usable s k) (z .run) ≡ true) (s .streams) i k (record { run = r })
+    set-stream (λ (z : Stream). WorkFormed (among moving (s .phase)) (s .created) k (z .work)) (s .streams) i k (record { work = r })
     (λ q. rw q e)
     (f .streams k b)))
 
@@ -162,12 +158,11 @@ run-formed {s} f i h r e =
 pub new-formed : (len created : ℕ) → legal len ≡ true → within fewestCreated mostCreated created ≡ true → Formed (newSession (len / 2) created) len
 unfolding legal
 new-formed len created e w =
-    let a₁ = eqb (len % 2) 0 in
-    let a₂ = not (eqb len 0) in
-    let a₃ = leb len (2 * mostPages) in
-    let even : len % 2 ≡ 0 = eqb-true _ _ (and-left a₁ a₂ (and-left (a₁ && a₂) a₃ e)) in
-    let some : len ≡ 0 → ⊥ = eqb-false _ _ (not-true (eqb len 0) (and-right a₁ a₂ (and-left (a₁ && a₂) a₃ e))) in
-    let most : len ≤ 2 * mostPages = leb-true _ _ (and-right (a₁ && a₂) a₃ e) in
+    let h = every-hold (eqb (len % 2) 0 ∷ not (eqb len 0) ∷ leb len (2 * mostPages) ∷ []) e in
+    let even : len % 2 ≡ 0 = eqb-true _ _ (h .0) in
+    let some : len ≡ 0 → ⊥ = eqb-false _ _ (not-true (eqb len 0) (h .1 .0)) in
+    let most : len ≤ 2 * mostPages = leb-true _ _ (h .1 .1 .0) in
+    let created-within = every-hold (leb fewestCreated created ∷ leb created mostCreated ∷ []) w in
     record {
       even = even;
       some = some;
@@ -177,12 +172,9 @@ new-formed len created e w =
       tlb = record { low = omega arith; high = omega arith };
       idle = λ q. refl;
       begun = λ n. absurd (n refl);
-      created = record {
-        low = leb-true _ _ (and-left (leb fewestCreated created) (leb created mostCreated) w);
-        high = leb-true _ _ (and-right (leb fewestCreated created) (leb created mostCreated) w);
-      };
+      created = record { low = leb-true _ _ (created-within .0); high = leb-true _ _ (created-within .1 .0) };
       place = omega arith;
       complete = λ q. absurd (false≢true q);
       apart = λ q. refl;
-      streams = λ i. rest-formed false i;
+      streams = rest-formed false created;
     }

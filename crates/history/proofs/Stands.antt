@@ -1,15 +1,15 @@
 -- The calls that make no entry: each steps every page, or makes every page anew with nothing at the destination.
 use mathlib.Core.Path.{_≡_, refl}
 use mathlib.Core.List.{List, [], _∷_}
-use Prim.Native.Nat.{ℕ, _+_, _-_, _*_, _≤_, _<_}
+use Prim.Native.Nat.{ℕ, _+_, _-_, _*_, _^_, _≤_, _<_}
 use native.Mathlib.Omega.{arith}
 use lib.Dec.{eqb}
 use lib.ListN.{length, replicate}
 use borrow.Author.Tests.{eqb-true}
 use Rattle.words.specs.Codes as codes
-use Rattle.words.specs.Record.{room}
 use Rattle.refusals.specs.Refusals.{_gives_}
 use Rattle.refusals.proofs.Laws.{either}
+use Rattle.states.specs.States.{isStrange, isIn}
 use Rattle.page.specs.Page.{blocked}
 use Rattle.page.specs.declared.moves.Move.{Move}
 use Rattle.page.specs.declared.sweeps.Sweep.the-variants as sweep
@@ -23,7 +23,8 @@ use Rattle.session.specs.declared.Phase.the-variants.{Idle, Live, Blackout, Don
 use Rattle.session.specs.declared.Session.{Session}
 use Rattle.session.proofs.Laws.{answered-either, gate-open}
 use Rattle.session.proofs.FormedLaws.{tlb-fits}
-use Rattle.memory.specs.Memory.{newCode, newOut, pageTurn, onPage, trackTests, trackCode, trackOut}
+use Rattle.memory.specs.Memory.{newCode, newOut, onPage, trackTests, trackCode, trackOut}
+use Rattle.memory.proofs.Laws.{page-either}
 use Rattle.migration.specs.Migration.{pauseCode, pauseOut, abortCode, abortOut, newEpochCode, newEpochOut, resetCode, resetOut}
 use Rattle.migration.specs.Token.{tokenTests, tokenCode, tokenOut}
 use Rattle.scan.specs.Scan.{rangeRun, checkedBy, ScanOutcome, dscanTests, dscanCode, dscanOf, dscanOut, dcheckTests, dcheckCode, dcheckOf, dcheckOut}
@@ -60,21 +61,19 @@ since-begun Done log n = refl
 -- ---- New
 
 pub anew-stands : (pages created n : ℕ) (log : List Sent) → Stands (newSession pages created) (replicate n 0) log
+unfolding isIn isStrange
 anew-stands pages created n log =
     fine-none
     (λ i h. rw (zero-page n i) (record {
       has = absent;
-      ok = record { young = omega arith; there = refl; same = tt; seen = λ a b x. refl; still = tt };
+      ok = record { known = refl; young = omega arith; there = refl; same = (tt, tt); seen = λ a b x. refl; still = tt };
       past = past-none i;
     }))
 
 -- ---- what comes back of the session
 
 page-session : (m : Move) (s : Session) (t : List ℕ) (at : ℕ) → onPage m s t at .answer .session ≡ s
-unfolding onPage
-page-session m s t at =
-    let turn = pageTurn m s (length t) at (wordsAt t at) in
-    answered-either (λ (o : Outcome). o .answer .session ≡ s) (turn .code) s t s (putAt t at (turn .words)) (λ e. refl) (λ e. refl)
+page-session m s t at = page-either m s t at (λ (o : Outcome). o .answer .session ≡ s) (λ d. refl) (λ q. refl)
 
 -- ---- each call
 
@@ -120,7 +119,7 @@ module _ (s : Session) (t : List ℕ) (log : List Sent) (f : Stands s t log) whe
   pub abort-stands : Leaves log (abortOut s t)
   unfolding abortOut
   abort-stands =
-      answered-either (Leaves log) (abortCode s t) s t (begun s Idle 0) (swept sweep.Abort t)
+      answered-either (Leaves log) (abortCode s (length t)) s t (begun s Idle 0) (swept sweep.Abort t)
       (λ e. fine-none (rows-anew sweep.Abort (clockOf s) (clockOf (begun s Idle 0)) (since (s .phase) log) t (λ i h v o. aborted-ok (clockOf s) (clockOf (begun s Idle 0)) (pageAt t i) refl refl v o) (f .rows)))
       (λ e. f)
 
@@ -149,7 +148,7 @@ module _ (s : Session) (t : List ℕ) (log : List Sent) (f : Stands s t log) whe
 
   -- ---- the scans
 
-  scan-stands : (count : ℕ) (scan : Scan) (l : List ℕ) → scan .tlb ≡ s .tlb → s .tlb < room → 2 * scan .first + 2 * count ≤ length t → Stands s (rangeRun count scan t l .part) log
+  scan-stands : (count : ℕ) (scan : Scan) (l : List ℕ) → scan .tlb ≡ s .tlb → s .tlb < 2 ^ 16 → 2 * scan .first + 2 * count ≤ length t → Stands s (rangeRun count scan t l .part) log
   scan-stands count scan l e small fits = fine-steps (omega arith) (scan-steps (clockOf s) count scan t l e small fits) f
 
   pub dscan-stands : (l : List ℕ) (first count budget : ℕ) → Stands (dscanOut s t l first count budget .answer .session) (dscanOut s t l first count budget .table) log

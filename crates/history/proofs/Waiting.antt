@@ -7,15 +7,14 @@ use Prim.Native.Nat.{ℕ, _≤_, _<_}
 use lib.ListN.{length}
 use Rattle.words.specs.Entry.{entryOf}
 use Rattle.words.specs.Operations as operations
-use Rattle.states.specs.Lists.{listingOf}
 use Rattle.page.specs.Page.{blocked}
-use Rattle.page.specs.declared.Page.{Page}
+use Rattle.page.specs.Page.{Page}
 use Rattle.table.specs.Table.{pageCount, pageAt}
 use Rattle.session.specs.Session.{streamPlaces}
 use Rattle.session.specs.Formed.{formed, busy, mostEntries}
 use Rattle.session.specs.declared.Phase.the-variants.{Blackout}
 use Rattle.migration.specs.Grant.{Ready}
-use Rattle.entry.specs.Entry.{invalid, unexportable}
+use Rattle.entry.specs.Entry.{invalid, unexportable, cancelled}
 use Rattle.history.specs.History.{World}
 
 -- an entry for page i that is valid and no NOP
@@ -27,7 +26,7 @@ pub record Names (word i : ℕ) : Type 0 where
 -- in Blackout an entry of the page succeeds, in a later epoch than the page's own
 pub record Due (p : Page) : Type 0 where
   pub able : unexportable p ≡ false
-  pub clean : (not (listingOf (p .state) .cancelled) && p .dirty) ≡ false
+  pub clean : (not (cancelled p) && p .dirty) ≡ false
   -- of 26 and 31 an export makes 1 and 3, which are not ready
   pub unblocked : blocked p ≡ false
 
@@ -53,4 +52,4 @@ pub record Left (w : World) (n : ℕ) (ls : List (List ℕ)) : Type 0 where
   pub complete : w .session .check .complete ≡ true
   pub created : w .session .created ≡ n
   pub lists : (l : List ℕ) → List·Memᴰ l ls → Short l
-  pub pages : (i : ℕ) → i < pageCount (w .table) → Ready (pageAt (w .table) i) ⊎ (Due (pageAt (w .table) i) × (pageAt (w .table) i .epoch < w .session .epoch) × Listed ls i)
+  pub pages : (i : ℕ) → i < pageCount (w .table) → Ready (pageAt (w .table) i) ⊎ (Due (pageAt (w .table) i) × (pageAt (w .table) i .migrated < w .session .epoch) × Listed ls i)

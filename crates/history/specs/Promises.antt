@@ -1,33 +1,27 @@
 -- Demand 3, over every history.
 use mathlib.Core.Path.{_≡_}
-use mathlib.Core.Bool.{true, false}
-use mathlib.Core.List.{List, _∷_, _++_, map}
+use mathlib.Core.Bool.{true, false, cond}
+use mathlib.Core.List.{List, [], _∷_, _++_, map}
 use Prim.Native.Nat.{ℕ, _≤_}
 use lib.ListN.{length}
-use Rattle.states.specs.declared.State.{State}
-use Rattle.states.specs.declared.State.the-variants.{Free, Blocked, Pending, PendingBlocked, Mapped, Exported, ExportedModified, ExportedBlocked, ExportedRemoved, PendingExported, PendingExportedModified, PendingExportedBlocked, Strange}
-use Rattle.page.specs.declared.Page.{Page}
+use Rattle.states.specs.States.{State, Blocked, Pending, PendingBlocked, Mapped, Exported, ExportedModified, ExportedBlocked, PendingExported, PendingExportedModified, PendingExportedBlocked, isIn}
+use Rattle.page.specs.Page.{Page}
 use Rattle.table.specs.Table.{pageCount, pageAt}
 use Rattle.session.specs.Formed.{busy, formed}
 use Rattle.bundle.specs.Bundle.{Holding, absent, holds, Sent, nothing, replay, Order, Once, Fits}
 use Rattle.history.specs.History.{World, History, atEnd}
 use Rattle.history.specs.Earning.{granted, Paused, Ask, Fair, Full, All, check, complete, mostLists, fullAsks, prepared, Sending, sendingAll, Plan, atOnce, Exporting, exportingAll, TookEvery}
 
+-- the states in which the guest has a data page, and a pending one
+abbrev pub guestsStates : List State
+guestsStates = Blocked ∷ Mapped ∷ Exported ∷ ExportedModified ∷ ExportedBlocked ∷ []
+
+abbrev pub awaitedStates : List State
+awaitedStates = Pending ∷ PendingBlocked ∷ PendingExported ∷ PendingExportedModified ∷ PendingExportedBlocked ∷ []
+
 -- what the table says of a page: a data page with its mark, a pending one with 0, or nothing
 abbrev pub contentOf : State → ℕ → Holding
-contentOf Free mark = absent
-contentOf Blocked mark = holds false mark
-contentOf Pending mark = holds true 0
-contentOf PendingBlocked mark = holds true 0
-contentOf Mapped mark = holds false mark
-contentOf Exported mark = holds false mark
-contentOf ExportedModified mark = holds false mark
-contentOf ExportedBlocked mark = holds false mark
-contentOf ExportedRemoved mark = absent
-contentOf PendingExported mark = holds true 0
-contentOf PendingExportedModified mark = holds true 0
-contentOf PendingExportedBlocked mark = holds true 0
-contentOf Strange mark = absent
+contentOf z mark = cond (isIn z guestsStates) (holds false mark) (cond (isIn z awaitedStates) (holds true 0) absent)
 
 abbrev pub content : Page → Holding
 content p = contentOf (p .state) (p .mark)

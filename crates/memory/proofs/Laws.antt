@@ -1,28 +1,38 @@
--- What a call knows once its code is 0.
-use mathlib.Core.Path.{_≡_, refl, sym, ap, _∙_}
-use mathlib.Core.Bool.{Bool, true, false, cond}
+-- What a call answers without the table's words, and what it knows once its code is 0.
+use mathlib.Core.Path.{_≡_, refl, sym, subst}
+use mathlib.Core.Bool.{true, false}
 use mathlib.Core.List.{List}
 use Prim.Native.Nat.{ℕ, _/_, _<_}
 use native.Mathlib.Omega.{arith}
 use lib.Dec.{eqb}
 use lib.ListN.{length}
-use borrow.Author.Tests.{leb-false, eqb-true, eqb-false, eq-eqb}
-use Rattle.refusals.proofs.Laws.{passed, not-false}
-use Rattle.page.specs.Page.{pageOf, written}
-use Rattle.page.specs.Moves.{stepOf, turnOf}
-use Rattle.page.specs.declared.records.PageWords.{PageWords}
-use Rattle.page.specs.declared.moves.Turn.{Turn}
+use borrow.Author.Tests.{leb-false, eqb-true, eqb-false}
+use Rattle.refusals.specs.Refusals.{firstOf}
+use Rattle.refusals.proofs.Laws.{Passed, coded, passed, not-false}
+use Rattle.page.specs.Page.{Page, onWords, unlessStrange}
+use Rattle.page.specs.Moves.{moveTests, movedBy}
 use Rattle.page.specs.declared.moves.Move.{Move}
-use Rattle.page.proofs.MoveLaws.{step-becomes}
+use Rattle.page.specs.declared.moves.Move.the-variants.{Write, Add, Accept, Block, Unblock, Remove}
+use Rattle.page.proofs.Laws.{read-held}
+use Rattle.page.proofs.MoveLaws.{done-known, moved-held}
 use Rattle.table.specs.Table.{wordsAt, pageAt, putAt}
 use Rattle.table.proofs.Laws.{put-other, page-put}
-use Rattle.session.specs.Session.{guest}
+use Rattle.session.specs.Session.{among, guest}
 use Rattle.session.specs.Formed.{formed, lastEpoch}
-use Rattle.session.specs.Outcome.{Outcome}
+use Rattle.session.specs.Outcome.{Outcome, outcome, answered}
 use Rattle.session.specs.declared.Session.{Session}
-use Rattle.session.proofs.Laws.{gate-open, answered-either, answered-words}
+use Rattle.session.proofs.Laws.{gate-open, answered-either}
 use Rattle.session.proofs.FormedLaws.{formed-means, tlb-fits}
-use Rattle.memory.specs.Memory.{pageTests, pageCode, pageTurn, onPage, trackTests, trackCode}
+use Rattle.memory.specs.Memory.{newAnswer, newOut, pageTests, pageTurn, onPage, trackTests, trackCode, trackAnswer, trackOut}
+
+-- what New and track answer, of any table of that length
+pub new-answer : (s : Session) (len : ℕ) (t : List ℕ) (created : ℕ) → length t ≡ len → newAnswer s len created ≡ newOut s t created .answer
+unfolding newAnswer newOut answered
+new-answer s len t created e = rw (← e)
+
+pub track-answer : (s : Session) (len : ℕ) (t : List ℕ) → length t ≡ len → trackAnswer s len ≡ trackOut s t .answer
+unfolding trackAnswer trackOut answered
+track-answer s len t e = rw (← e)
 
 pub track-room : (s : Session) (len : ℕ) → trackCode s len ≡ 0 → s .tlb < lastEpoch
 unfolding trackCode
@@ -31,54 +41,62 @@ track-room s len e =
 
 -- ---- a call on one page that is done
 
--- it has passed its tests
-pub record Inside (s : Session) (len at : ℕ) : Type 0 where
+-- the call is its turn on the words that the table holds
+pub page-turn : (m : Move) (s : Session) (t : List ℕ) (at : ℕ) → onPage m s t at ≡ answered (pageTurn m s (length t) at (wordsAt t at) .code) s t s (putAt t at (pageTurn m s (length t) at (wordsAt t at) .words))
+unfolding onPage pageTurn
+page-turn m s t at = refl
+
+-- its tests have codes of their own
+pub move-coded : (m : Move) (p : Page) (tlb : ℕ) → coded (moveTests m p tlb) ≡ true
+move-coded (Write mark) p tlb = refl
+move-coded Add p tlb = refl
+move-coded Accept p tlb = refl
+move-coded Block p tlb = refl
+move-coded Unblock p tlb = refl
+move-coded Remove p tlb = refl
+
+-- it has passed them
+pub record Done (m : Move) (s : Session) (len at : ℕ) (p : Page) : Type 0 where
   pub formed : formed s len ≡ true
+  pub comes : among guest (s .phase) ≡ true
   pub below : at < len / 2
+  pub moves : Passed (moveTests m p (s .tlb))
 
-page-inside : (m : Move) (s : Session) (len at : ℕ) → pageCode m s len at ≡ 0 → Inside s len at
-unfolding pageCode
-page-inside m s len at e =
-    let p = passed (pageTests m s len at) refl e in
-    let f = not-false (formed s len) (p .0) in
+pub page-passed : (m : Move) (s : Session) (len at : ℕ) (p : Page) → firstOf (pageTests m s len at p) ≡ 0 → Done m s len at p
+page-passed m s len at p e =
+    let d = passed (pageTests m s len at p) (move-coded m p (s .tlb)) e in
+    let f = not-false (formed s len) (d .0) in
     let ours : len / 2 ≡ s .pages = formed-means s len f .ours in
-    let below : at < s .pages = leb-false (s .pages) at (p .1 .1 .1 .0) in
-    record { formed = f; below = omega arith }
+    let below : at < s .pages = leb-false (s .pages) at (d .1 .1 .1 .0) in
+    record { formed = f; comes = not-false (among guest (s .phase)) (d .1 .1 .0); below = omega arith; moves = d .1 .1 .1 .1 }
 
--- the turn that it made is the page's own
-turn-done : (m : Move) (s : Session) (len at : ℕ) (w : PageWords) → pageTurn m s len at w .code ≡ 0 → (pageCode m s len at ≡ 0) × (pageTurn m s len at w ≡ turnOf m w (s .tlb))
-unfolding pageTurn
-turn-done m s len at w = go (eqb (pageCode m s len at) 0) refl
-  where
-    go : (b : Bool) → eqb (pageCode m s len at) 0 ≡ b → cond {A = Turn} b (turnOf m w (s .tlb)) (record { code = pageCode m s len at; words = w }) .code ≡ 0 → (pageCode m s len at ≡ 0) × (cond b (turnOf m w (s .tlb)) (record { code = pageCode m s len at; words = w }) ≡ turnOf m w (s .tlb))
-    go true q e = (eqb-true (pageCode m s len at) 0 q, refl)
-    go false q e = absurd (eqb-false (pageCode m s len at) 0 q e)
+module _ (m : Move) (s : Session) (t : List ℕ) (at : ℕ) where
+  abbrev code : ℕ
+  code = firstOf (pageTests m s (length t) at (pageAt t at))
 
-turn-words : (m : Move) (w : PageWords) (tlb : ℕ) → turnOf m w tlb .code ≡ 0 → turnOf m w tlb .words ≡ written w (stepOf m (pageOf w) tlb .page)
-unfolding turnOf
-turn-words m w tlb e = rw (eq-eqb _ _ e)
+  abbrev made : List ℕ
+  made = putAt t at (onWords (movedBy m (s .tlb)) (wordsAt t at))
 
-pub page-done : (m : Move) (s : Session) (t : List ℕ) (at : ℕ) → onPage m s t at .answer .code ≡ 0 → pageAt (onPage m s t at .table) at ≡ stepOf m (pageAt t at) (s .tlb) .page
-unfolding onPage
-page-done m s t at =
-    answered-either (λ (o : Outcome). o .answer .code ≡ 0 → pageAt (o .table) at ≡ stepOf m (pageAt t at) (s .tlb) .page)
-    (turn .code) s t s (putAt t at (turn .words)) (λ q. made) (λ q e. absurd (eqb-false (turn .code) 0 q e))
-  where
-    turn : Turn
-    turn = pageTurn m s (length t) at (wordsAt t at)
+  -- what holds of the outcome of a call that is done and of the one that gives back what came
+  pub page-either : (P : Outcome → Type 0) → (Done m s (length t) at (pageAt t at) → P (outcome 0 s made)) → (eqb code 0 ≡ false → P (outcome code s t)) → P (onPage m s t at)
+  unfolding onPage
+  page-either P f g =
+      answered-either P code s t s made
+      (λ q. let z = eqb-true code 0 q in subst (λ (n : ℕ). P (outcome n s made)) (sym z) (f (page-passed m s (length t) at (pageAt t at) z)))
+      g
 
-    made : turn .code ≡ 0 → pageAt (putAt t at (turn .words)) at ≡ stepOf m (pageAt t at) (s .tlb) .page
-    made e =
-        let d = turn-done m s (length t) at (wordsAt t at) e in
-        let i = page-inside m s (length t) at (d .0) in
-        let same : turn .words ≡ written (wordsAt t at) (stepOf m (pageAt t at) (s .tlb) .page)
-        = ap (λ (x : Turn). x .words) (d .1) ∙ turn-words m (wordsAt t at) (s .tlb) (sym (ap (λ (x : Turn). x .code) (d .1)) ∙ e) in
-        ap (λ (w : PageWords). pageAt (putAt t at w) at) same
-        ∙ page-put t at (stepOf m (pageAt t at) (s .tlb) .page) (i .below) (step-becomes m (pageAt t at) (s .tlb) (tlb-fits s (length t) (i .formed)))
+  pub page-code : onPage m s t at .answer .code ≡ code
+  unfolding onPage
+  page-code = answered-either (λ (o : Outcome). o .answer .code ≡ code) code s t s made (λ q. refl) (λ q. refl)
+
+  pub page-done : onPage m s t at .answer .code ≡ 0 → pageAt (onPage m s t at .table) at ≡ movedBy m (s .tlb) (pageAt t at)
+  unfolding unlessStrange
+  page-done =
+      page-either (λ (o : Outcome). o .answer .code ≡ 0 → pageAt (o .table) at ≡ movedBy m (s .tlb) (pageAt t at))
+      (λ d z. rw (done-known m (pageAt t at) (s .tlb) (d .moves)) at (page-put (movedBy m (s .tlb)) t at (d .below) (λ k. moved-held m (s .tlb) (tlb-fits s (length t) (d .formed)) (pageAt t at) (read-held (wordsAt t at) k))))
+      (λ q z. absurd (eqb-false code 0 q z))
 
 -- and a page that it is not on
 pub page-other : (m : Move) (s : Session) (t : List ℕ) (at k : ℕ) → (k ≡ at → ⊥) → wordsAt (onPage m s t at .table) k ≡ wordsAt t k
-unfolding onPage
 page-other m s t at k ne =
-    let turn = pageTurn m s (length t) at (wordsAt t at) in
-    answered-words (turn .code) s t s (putAt t at (turn .words)) k (λ e. put-other t at k (turn .words) ne)
+    page-either m s t at (λ (o : Outcome). wordsAt (o .table) k ≡ wordsAt t k) (λ d. put-other t at k (onWords (movedBy m (s .tlb)) (wordsAt t at)) ne) (λ q. refl)

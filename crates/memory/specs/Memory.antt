@@ -1,23 +1,25 @@
 -- The guest and memory calls, in document 01's order.
-use mathlib.Core.Bool.{Bool, true, false, cond, not, _&&_}
+use mathlib.Core.Bool.{Bool, true, false, not, _&&_}
 use mathlib.Core.List.{List, [], _∷_}
-use Prim.Native.Nat.{ℕ, _+_}
-use lib.Dec.{eqb, leb}
+use Prim.Native.Nat.{ℕ, _+_, _/_}
+use lib.Dec.{leb}
 use lib.ListN.{length, replicate}
 use Rattle.words.specs.Codes as codes
 use Rattle.refusals.specs.Refusals.{Test, _gives_, firstOf}
-use Rattle.page.specs.Moves.{turnOf}
+use Rattle.page.specs.Page.{Page, pageOf, onWords}
+use Rattle.page.specs.Moves.{moveTests, movedBy}
 use Rattle.page.specs.Sweeps.{uncached}
-use Rattle.page.specs.declared.records.PageWords.{PageWords}
-use Rattle.page.specs.declared.moves.Turn.{Turn}
+use Rattle.page.specs.declared.PageWords.{PageWords}
 use Rattle.page.specs.declared.moves.Move.{Move}
 use Rattle.page.specs.declared.moves.Move.the-variants.{Write, Add, Accept, Block, Unblock, Remove}
-use Rattle.table.specs.Table.{legal, pageCount, wordsAt, putAt}
+use Rattle.table.specs.Table.{legal, pageCount, wordsAt, pageAt, putAt}
 use Rattle.session.specs.Session.{among, guest, newSession, withTlb}
 use Rattle.session.specs.Formed.{formed, gated, within, fewestCreated, mostCreated, lastEpoch}
-use Rattle.session.specs.Outcome.{Outcome, answered, answeredBy}
+use Rattle.session.specs.Outcome.{Outcome, answerFor, answered, answeredBy}
 use Rattle.session.specs.declared.Phase.the-variants.{Blackout}
 use Rattle.session.specs.declared.Session.{Session}
+use Rattle.session.specs.declared.Answer.{Answer}
+use Rattle.memory.specs.declared.Turn.{Turn}
 
 -- ---- New
 
@@ -27,6 +29,10 @@ newCode len created =
     firstOf (not (legal len) gives codes.malformed ∷ not (within fewestCreated mostCreated created) gives codes.operandInvalid ∷ [])
 
 -- the session given is not read, and comes back as it was when refused
+unfoldable pub newAnswer : Session → ℕ → ℕ → Answer
+newAnswer s len created = answerFor (newCode len created) s (newSession (len / 2) created)
+
+-- and all words 0
 unfoldable pub newOut : Session → List ℕ → ℕ → Outcome
 newOut s t created =
     answered (newCode (length t) created) s t (newSession (pageCount t) created) (replicate (length t) 0)
@@ -41,26 +47,22 @@ isBlock Block = true
 isBlock Unblock = false
 isBlock Remove = false
 
--- a block in Blackout is 49; a page number beyond the table is 42
-abbrev pub pageTests : Move → Session → ℕ → ℕ → List Test
-pageTests m s len at =
+-- 40; a block in Blackout is 49; 41; a page number beyond the table is 42; then what the call asks of its page
+abbrev pub pageTests : Move → Session → ℕ → ℕ → Page → List Test
+pageTests m s len at p =
     not (formed s len) gives codes.malformed
     ∷ (isBlock m && among (Blackout ∷ []) (s .phase)) gives codes.blockingDisallowed
     ∷ not (among guest (s .phase)) gives codes.opStateIncorrect
     ∷ leb (s .pages) at gives codes.operandInvalid
-    ∷ []
-
-unfoldable pub pageCode : Move → Session → ℕ → ℕ → ℕ
-pageCode m s len at = firstOf (pageTests m s len at)
-
--- the whole call on the page's two words
-unfoldable pub pageTurn : Move → Session → ℕ → ℕ → PageWords → Turn
-pageTurn m s len at w =
-    cond (eqb (pageCode m s len at) 0) (turnOf m w (s .tlb)) (record { code = pageCode m s len at; words = w })
+    ∷ moveTests m p (s .tlb)
 
 unfoldable pub onPage : Move → Session → List ℕ → ℕ → Outcome
 onPage m s t at =
-    let turn = pageTurn m s (length t) at (wordsAt t at) in answered (turn .code) s t s (putAt t at (turn .words))
+    answered (firstOf (pageTests m s (length t) at (pageAt t at))) s t s (putAt t at (onWords (movedBy m (s .tlb)) (wordsAt t at)))
+
+-- the same on the page's two words: the code, and the words if it is 0
+unfoldable pub pageTurn : Move → Session → ℕ → ℕ → PageWords → Turn
+pageTurn m s len at w = record { code = firstOf (pageTests m s len at (pageOf w)); words = onWords (movedBy m (s .tlb)) w }
 
 unfoldable pub writeOut : Session → List ℕ → ℕ → ℕ → Outcome
 writeOut s t at mark = onPage (Write mark) s t at
@@ -89,6 +91,10 @@ trackTests s = leb lastEpoch (s .tlb) gives codes.tlbEpochAtLimit ∷ []
 unfoldable pub trackCode : Session → ℕ → ℕ
 trackCode s len = gated s len guest (trackTests s)
 
--- TLB epoch plus one and every Cached bit cleared
+-- TLB epoch plus one
+unfoldable pub trackAnswer : Session → ℕ → Answer
+trackAnswer s len = answerFor (trackCode s len) s (withTlb s (s .tlb + 1))
+
+-- and every Cached bit cleared
 unfoldable pub trackOut : Session → List ℕ → Outcome
 trackOut s t = answeredBy uncached (trackCode s (length t)) s (withTlb s (s .tlb + 1)) t

@@ -1,14 +1,12 @@
 // New, and the guest and memory calls.
 ghost use mathlib.Core.Path.{_≡_};
-ghost use mathlib.Core.List.{List};
-ghost use Prim.Native.Nat.{ℕ};
-ghost use lib.ListN.{length};
-ghost use Rattle.memory.specs.Memory.{newCode, newOut, isBlock, pageCode, pageTurn, onPage};
-ghost use Rattle.memory.specs.Memory.{writeOut, addOut, acceptOut, blockOut, unblockOut, removeOut, trackCode, trackOut};
+ghost use Rattle.refusals.specs.Refusals.{firstOf};
+ghost use Rattle.page.specs.Page.{pageOf};
+ghost use Rattle.memory.specs.Memory.{newCode, newAnswer, newOut, isBlock, pageTests, pageTurn, onPage};
+ghost use Rattle.memory.specs.Memory.{writeOut, addOut, acceptOut, blockOut, unblockOut, removeOut, trackCode, trackAnswer, trackOut};
+use page::PageWords;
 use page::moves;
 use page::moves::Move;
-use page::moves::Turn;
-use page::records::PageWords;
 use page::sweeps::Sweep;
 use session::Answer;
 use session::Session;
@@ -30,7 +28,7 @@ fn new_code(len: usize, created: u64) -> u64
 
 // What New answers, of a table of that length.
 pub fn new_answer(s: Session, len: usize, created: u64) -> Answer
-    ensures { λ r. ⌜ ((t : List ℕ) → length t ≡ len → r ≡ newOut s t created .answer) ⌝ }
+    ensures { λ r. ⌜ r ≡ newAnswer s len created ⌝ }
 {
     let code = new_code(len, created);
     if code != codes::DONE {
@@ -67,8 +65,8 @@ fn is_block(m: Move) -> bool
     }
 }
 
-fn page_code(m: Move, s: Session, len: usize, at: usize) -> u64
-    ensures { λ r. ⌜ r ≡ pageCode m s len at ⌝ }
+fn page_code(m: Move, s: Session, len: usize, at: usize, w: PageWords) -> u64
+    ensures { λ r. ⌜ r ≡ firstOf (pageTests m s len at (pageOf w)) ⌝ }
 {
     let p = s.phase;
     let comes = session::comes_in(p);
@@ -89,18 +87,22 @@ fn page_code(m: Move, s: Session, len: usize, at: usize) -> u64
     if beyond {
         return codes::OPERAND_INVALID;
     }
-    codes::DONE
+    moves::move_code(m, w, s.tlb)
+}
+
+// What a call on one page comes to: its code, and the page's two words if that is 0.
+pub struct Turn {
+    pub code: u64,
+    pub words: PageWords,
 }
 
 // The whole call on the page's two words, for whoever holds them without a table of words.
 pub fn on_words(m: Move, s: Session, len: usize, at: usize, w: PageWords) -> Turn
     ensures { λ r. ⌜ r ≡ pageTurn m s len at w ⌝ }
 {
-    let code = page_code(m, s, len, at);
-    if code == codes::DONE {
-        return moves::take_turn(m, w, s.tlb);
-    }
-    Turn { code, words: w }
+    let code = page_code(m, s, len, at, w);
+    let words = moves::move_words(m, w, s.tlb);
+    Turn { code, words }
 }
 
 fn on_page(m: Move, s: Session, table: &mut [u64], at: usize) -> Answer
@@ -176,7 +178,7 @@ fn track_code(s: Session, len: usize) -> u64
 
 // What track answers, of a table of that length.
 pub fn track_answer(s: Session, len: usize) -> Answer
-    ensures { λ r. ⌜ ((t : List ℕ) → length t ≡ len → r ≡ trackOut s t .answer) ⌝ }
+    ensures { λ r. ⌜ r ≡ trackAnswer s len ⌝ }
 {
     let code = track_code(s, len);
     if code != codes::DONE {

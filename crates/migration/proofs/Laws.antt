@@ -1,28 +1,28 @@
--- What a call knows once its code is 0, and the numbers of the token's cases.
-use mathlib.Core.Path.{_≡_, refl, sym, ap, _∙_}
-use mathlib.Core.Bool.{Bool, true, false, cond, not, true≢false, _||_}
+-- What a call knows once its code is 0, what it answers from what it is told, and the numbers of the token's cases.
+use mathlib.Core.Path.{_≡_, refl, ap}
+use mathlib.Core.Bool.{Bool, true, false, cond, not, _||_}
 use mathlib.Core.List.{List, [], _∷_}
-use Prim.Native.Nat.{ℕ, _+_, _<_}
-use lib.Dec.{eqb}
+use Prim.Native.Nat.{ℕ, _+_, _≤_, _<_}
+use lib.Dec.{eqb, ltb}
 use lib.ListN.{length}
-use borrow.Author.Tests.{leb-false, eqb-true}
+use borrow.Author.Tests.{leb-false, eqb-true, ltb-false}
 use Rattle.words.specs.Codes as codes
-use Rattle.refusals.specs.Refusals.{_gives_, firstOf}
-use Rattle.page.specs.Page.{gives53, gives54}
+use Rattle.refusals.specs.Refusals.{Test, _gives_, firstOf}
+use Rattle.refusals.proofs.Laws.{not-true, first-all}
+use Rattle.page.specs.Page.{unstartable, blocked, gives53, gives54, sought}
+use Rattle.page.specs.declared.queries.Sought.the-variants.{Blocked, Unstartable}
 use Rattle.table.specs.Table.{pageCount, lowest, some}
-use Rattle.session.specs.Session.{among, phasesOf, moving, unchecked, withEpoch, withCheck}
-use Rattle.session.specs.Formed.{formed, gated, busy, lastEpoch}
+use Rattle.session.specs.Session.{phasesOf, moving, unchecked, begun, withPhase, withEpoch, withCheck}
+use Rattle.session.specs.Formed.{gateTests, gated, behind, lastEpoch}
+use Rattle.session.specs.Outcome.{answerFor, answered}
 use Rattle.session.specs.declared.When.the-variants as when
+use Rattle.session.specs.declared.Phase.the-variants.{Live, Blackout}
 use Rattle.session.specs.declared.Session.{Session}
-use Rattle.session.proofs.Laws.{gate-open, table-kept}
-use Rattle.migration.specs.Migration.{newEpochTests, newEpochCode, newEpochOut, resetCode, resetOut}
-use Rattle.migration.specs.Token.{tokenNumber, tokenPage, tokenGate, tokenCode, inTheWay, tokenFor, tokenOut}
+use Rattle.session.proofs.Laws.{first-then, behind-gate, gate-open, table-kept}
+use Rattle.migration.specs.Migration.{startTests, startCode, startOut, startAnswer, pauseTests, pauseCode, pauseOut, pauseAnswer}
+use Rattle.migration.specs.Migration.{abortAnswer, abortOut, newEpochTests, newEpochCode, newEpochAnswer, newEpochOut, resetCode, resetAnswer, resetOut}
+use Rattle.migration.specs.Token.{TokenNumbers, tokenSays, tokenGate, tokenCode, inTheWay, tokenFor, tokenOut, tokenAnswer}
 use Rattle.migration.specs.declared.token.Token.the-variants.{Granted, Refused, InTheWay}
-
--- the token's first four tests, and x where none holds
-abbrev before : Bool → Bool → Bool → Bool → ℕ → ℕ
-before a b c d x =
-    cond a codes.malformed (cond b codes.opStateIncorrect (cond c codes.operandBusy (cond d codes.memScanDcheckNotDone x)))
 
 pub epoch-room : (s : Session) (len : ℕ) → newEpochCode s len ≡ 0 → s .epoch < lastEpoch
 unfolding newEpochCode
@@ -39,57 +39,88 @@ pub reset-table : (s : Session) (t : List ℕ) → resetOut s t .table ≡ t
 unfolding resetOut
 reset-table s t = table-kept (resetCode s (length t)) s (withCheck s unchecked) t
 
--- ---- the cases of the token
+-- ---- answers from what is told
 
-pub token-number : (code : ℕ) (t : List ℕ) → tokenNumber (tokenFor code t) ≡ code
-unfolding tokenFor
-token-number code t = go (eqb code codes.done) refl (eqb code codes.exportedDirtyPagesRemain || eqb code codes.unexportedMemoryRemains)
-  where
-    go : (a : Bool) → eqb code codes.done ≡ a → (b : Bool) → tokenNumber (cond a Granted (cond b (InTheWay code (inTheWay code t)) (Refused code))) ≡ code
-    go true e b = sym (eqb-true code codes.done e)
-    go false e true = refl
-    go false e false = refl
+module _ (s : Session) (t : List ℕ) (gate : ℕ) where
+  pub start-answer : (stops : Bool) → gate ≡ gated s (length t) (phasesOf when.Idle) [] → (gate ≡ 0 → stops ≡ some (sought Unstartable) t) → startAnswer s gate stops ≡ startOut s t .answer
+  unfolding startAnswer startOut startCode answered
+  start-answer stops e f =
+      ap (λ (code : ℕ). answerFor code s (begun s Live 1))
+      (behind-gate s (length t) (phasesOf when.Idle) (startTests stops) (startTests (some unstartable t)) gate e (λ z. ap (λ (b : Bool). firstOf (startTests b)) (f z)))
 
-pub token-page : (code : ℕ) (t : List ℕ) → tokenPage (tokenFor code t) ≡ inTheWay code t
+  pub pause-answer : (stops : Bool) → gate ≡ gated s (length t) (phasesOf when.Live) [] → (gate ≡ 0 → stops ≡ some (sought Blocked) t) → pauseAnswer s gate stops ≡ pauseOut s t .answer
+  unfolding pauseAnswer pauseOut pauseCode answered
+  pause-answer stops e f =
+      ap (λ (code : ℕ). answerFor code s (withPhase s Blackout))
+      (behind-gate s (length t) (phasesOf when.Live) (pauseTests s stops) (pauseTests s (some blocked t)) gate e (λ z. ap (λ (b : Bool). firstOf (pauseTests s b)) (f z)))
+
+module _ (s : Session) (len : ℕ) (t : List ℕ) (e : length t ≡ len) where
+  pub abort-answer : abortAnswer s len ≡ abortOut s t .answer
+  unfolding abortAnswer abortOut answered
+  abort-answer = rw (← e)
+
+  pub new-epoch-answer : newEpochAnswer s len ≡ newEpochOut s t .answer
+  unfolding newEpochAnswer newEpochOut answered
+  new-epoch-answer = rw (← e)
+
+  pub reset-answer : resetAnswer s len ≡ resetOut s t .answer
+  unfolding resetAnswer resetOut answered
+  reset-answer = rw (← e)
+
+-- ---- the token
+
+pub token-numbers : (code : ℕ) (t : List ℕ) → tokenSays (tokenFor code t) ≡ record { code = code; page = inTheWay code t }
 unfolding tokenFor inTheWay
-token-page code t = go (eqb code codes.done) refl (eqb code codes.exportedDirtyPagesRemain) (eqb code codes.unexportedMemoryRemains) refl refl
+token-numbers code t =
+    go (lowest gives53 (pageCount t) 0 t) (lowest gives54 (pageCount t) 0 t) (eqb code codes.done) refl (eqb code codes.exportedDirtyPagesRemain) refl (eqb code codes.unexportedMemoryRemains) refl
   where
-    go : (a : Bool) → eqb code codes.done ≡ a → (b c : Bool) → eqb code codes.exportedDirtyPagesRemain ≡ b → eqb code codes.unexportedMemoryRemains ≡ c → tokenPage (cond a Granted (cond (b || c) (InTheWay code (cond b (lowest gives53 (pageCount t) 0 t) (cond c (lowest gives54 (pageCount t) 0 t) 0))) (Refused code))) ≡ cond b (lowest gives53 (pageCount t) 0 t) (cond c (lowest gives54 (pageCount t) 0 t) 0)
-    go true e b c f g = rw (sym f ∙ ap (λ (n : ℕ). eqb n codes.exportedDirtyPagesRemain) (eqb-true code codes.done e), sym g ∙ ap (λ (n : ℕ). eqb n codes.unexportedMemoryRemains) (eqb-true code codes.done e))
-    go false e true c f g = refl
-    go false e false true f g = refl
-    go false e false false f g = refl
+    go :
+        (x y : ℕ) (a : Bool) →
+        eqb code codes.done ≡ a →
+        (b : Bool) →
+        eqb code codes.exportedDirtyPagesRemain ≡ b →
+        (c : Bool) →
+        eqb code codes.unexportedMemoryRemains ≡ c →
+        tokenSays (cond a Granted (cond (b || c) (InTheWay code (cond b x (cond c y 0))) (Refused code))) ≡ record { code = code; page = cond b x (cond c y 0) }
+    go x y true e b f c g = rw (← f, ← g, eqb-true code codes.done e)
+    go x y false e true f c g = refl
+    go x y false e false f true g = refl
+    go x y false e false f false g = refl
 
--- ---- what stands before the token's look at the table
+pub token-number : (code : ℕ) (t : List ℕ) → tokenSays (tokenFor code t) .code ≡ code
+token-number code t = ap (λ (n : TokenNumbers). n .code) (token-numbers code t)
 
--- a code that stands there is the code, whatever the table
-pub token-gated : (s : Session) (t : List ℕ) → tokenCode s t ≡ cond (eqb (gated s (length t) (phasesOf when.Blackout) (tokenGate s)) 0) (firstOf (some gives53 t gives codes.exportedDirtyPagesRemain ∷ some gives54 t gives codes.unexportedMemoryRemains ∷ [])) (gated s (length t) (phasesOf when.Blackout) (tokenGate s))
-unfolding tokenCode gated
-token-gated s t = go (not (formed s (length t))) (not (among (phasesOf when.Blackout) (s .phase))) (busy s) (not (s .check .complete)) (firstOf (some gives53 t gives codes.exportedDirtyPagesRemain ∷ some gives54 t gives codes.unexportedMemoryRemains ∷ []))
-  where
-    go : (a b c d : Bool) (x : ℕ) → before a b c d x ≡ cond (eqb (before a b c d 0) 0) x (before a b c d 0)
-    go true b c d x = refl
-    go false true c d x = refl
-    go false false true d x = refl
-    go false false false true x = refl
-    go false false false false x = refl
+abbrev looks : List ℕ → List Test
+looks t = some gives53 t gives codes.exportedDirtyPagesRemain ∷ some gives54 t gives codes.unexportedMemoryRemains ∷ []
 
--- and its case is a refusal without a page
-refused-before : (a b c d : Bool) (t : List ℕ) → eqb (before a b c d 0) 0 ≡ false → tokenFor (before a b c d 0) t ≡ Refused (before a b c d 0)
-unfolding tokenFor
-refused-before true b c d t e = refl
-refused-before false true c d t e = refl
-refused-before false false true d t e = refl
-refused-before false false false true t e = refl
-refused-before false false false false t e = absurd (true≢false e)
+abbrev withPage : ℕ → Bool
+withPage n = eqb n codes.exportedDirtyPagesRemain || eqb n codes.unexportedMemoryRemains
 
-token-refused : (s : Session) (t : List ℕ) → eqb (gated s (length t) (phasesOf when.Blackout) (tokenGate s)) 0 ≡ false → tokenFor (gated s (length t) (phasesOf when.Blackout) (tokenGate s)) t ≡ Refused (gated s (length t) (phasesOf when.Blackout) (tokenGate s))
-unfolding gated
-token-refused s t e = refused-before (not (formed s (length t))) (not (among (phasesOf when.Blackout) (s .phase))) (busy s) (not (s .check .complete)) t e
+-- what stands before the token's look at the table goes before 53 and 54, and names no page
+module _ (s : Session) (t : List ℕ) (gate : ℕ) (e : gate ≡ gated s (length t) (phasesOf when.Blackout) (tokenGate s)) where
+  token-gated : tokenCode s t ≡ behind gate (looks t)
+  unfolding tokenCode gated
+  token-gated = rw e (first-then (gateTests s (length t) (phasesOf when.Blackout) (tokenGate s)) (looks t) refl)
 
-pub token-stopped : (s : Session) (t : List ℕ) (gate : ℕ) → gate ≡ gated s (length t) (phasesOf when.Blackout) (tokenGate s) → eqb gate 0 ≡ false → record { token = Refused gate; session = s } ≡ tokenOut s t
-unfolding tokenOut
-token-stopped s t gate e n =
-    let code : tokenCode s t ≡ gate = rw (token-gated s t, ← e, n) in
-    let case : tokenFor gate t ≡ Refused gate = rw e (token-refused s t (rw (← e) n)) in
-    rw (code, case, n)
+  no-page : withPage gate ≡ false
+  unfolding gated
+  no-page =
+      not-true (withPage gate)
+      (rw e (first-all (λ n. not (withPage n)) (gateTests s (length t) (phasesOf when.Blackout) (tokenGate s)) refl refl))
+
+cases : {P : Type 0} (b : Bool) → (b ≡ true → P) → (b ≡ false → P) → P
+cases true f g = f refl
+cases false f g = g refl
+
+pub token-answer : (s : Session) (t : List ℕ) (gate pages first53 first54 : ℕ) → gate ≡ gated s (length t) (phasesOf when.Blackout) (tokenGate s) → pages ≡ pageCount t → (gate ≡ 0 → first53 ≡ lowest gives53 (pageCount t) 0 t) → (gate ≡ 0 → pages ≤ first53 → first54 ≡ lowest gives54 (pageCount t) 0 t) → tokenAnswer s gate pages first53 first54 ≡ tokenOut s t
+unfolding tokenAnswer tokenOut tokenFor inTheWay some
+token-answer s t gate pages first53 first54 e n f g =
+    cases (eqb gate 0)
+    (λ z.
+    cases (ltb first53 pages)
+    (λ x. rw (token-gated s t gate e, z, ← f (eqb-true _ _ z), ← n, x))
+    (λ x.
+    cases (ltb first54 pages)
+    (λ y. rw (token-gated s t gate e, z, ← f (eqb-true _ _ z), ← g (eqb-true _ _ z) (ltb-false _ _ x), ← n, x, y))
+    (λ y. rw (token-gated s t gate e, z, ← f (eqb-true _ _ z), ← g (eqb-true _ _ z) (ltb-false _ _ x), ← n, x, y))))
+    (λ z. rw (token-gated s t gate e, z, z, no-page s t gate e))

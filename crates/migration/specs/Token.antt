@@ -2,7 +2,7 @@
 use mathlib.Core.Bool.{cond, not, _||_}
 use mathlib.Core.List.{List, [], _∷_, _++_}
 use Prim.Native.Nat.{ℕ}
-use lib.Dec.{eqb}
+use lib.Dec.{eqb, ltb}
 use lib.ListN.{length}
 use Rattle.words.specs.Codes as codes
 use Rattle.refusals.specs.Refusals.{Test, _gives_}
@@ -16,16 +16,15 @@ use Rattle.migration.specs.declared.token.Token.{Token}
 use Rattle.migration.specs.declared.token.Token.the-variants.{Granted, Refused, InTheWay}
 use Rattle.migration.specs.declared.token.TokenAnswer.{TokenAnswer}
 
--- document 01's numbers for each case: the code, and the page, which is 0 but for 53 and 54
-abbrev pub tokenNumber : Token → ℕ
-tokenNumber Granted = codes.done
-tokenNumber (Refused code) = code
-tokenNumber (InTheWay code page) = code
+pub record TokenNumbers : Type 0 where
+  pub code : ℕ
+  pub page : ℕ
 
-abbrev pub tokenPage : Token → ℕ
-tokenPage Granted = 0
-tokenPage (Refused code) = 0
-tokenPage (InTheWay code page) = page
+-- document 01's numbers for each case: the page is 0 but for 53 and 54
+abbrev pub tokenSays : Token → TokenNumbers
+tokenSays Granted = record { code = codes.done; page = 0 }
+tokenSays (Refused code) = record { code = code; page = 0 }
+tokenSays (InTheWay code page) = record { code = code; page = page }
 
 -- what is asked of the session alone: 43, 52
 abbrev pub tokenGate : Session → List Test
@@ -60,3 +59,11 @@ tokenFor code t =
 unfoldable pub tokenOut : Session → List ℕ → TokenAnswer
 tokenOut s t =
     record { token = tokenFor (tokenCode s t) t; session = cond (eqb (tokenCode s t) codes.done) (withPhase s Done) s }
+
+-- what it answers, told the code before 53, how many pages there are, and the lowest of them that give 53 and 54
+unfoldable pub tokenAnswer : Session → ℕ → ℕ → ℕ → ℕ → TokenAnswer
+tokenAnswer s gate pages first53 first54 =
+    cond (not (eqb gate codes.done)) (record { token = Refused gate; session = s })
+    (cond (ltb first53 pages) (record { token = InTheWay codes.exportedDirtyPagesRemain first53; session = s })
+    (cond (ltb first54 pages) (record { token = InTheWay codes.unexportedMemoryRemains first54; session = s })
+    (record { token = Granted; session = withPhase s Done })))

@@ -1,17 +1,10 @@
 // The session calls, and the scans' reset.
 ghost use mathlib.Core.Path.{_≡_};
-ghost use mathlib.Core.Bool.{true};
-ghost use mathlib.Core.List.{List, []};
-ghost use Prim.Native.Nat.{ℕ};
-ghost use lib.ListN.{length};
+ghost use mathlib.Core.Bool.{_&&_};
 ghost use Rattle.page.specs.Page.{sought};
-ghost use Rattle.page.specs.declared.queries.Sought.the-variants.{Blocked, Unstartable};
 ghost use Rattle.table.specs.Table.{some};
-ghost use Rattle.session.specs.Session.{phasesOf};
-ghost use Rattle.session.specs.Formed.{gated};
-ghost use Rattle.session.specs.declared.When.the-variants.{Idle, Live};
-ghost use Rattle.migration.specs.Migration.{startOut, pauseOut, abortOut};
-ghost use Rattle.migration.specs.Migration.{newEpochCode, newEpochOut, resetOut};
+ghost use Rattle.migration.specs.Migration.{startAnswer, startOut, pauseAnswer, pauseOut, abortAnswer, abortOut};
+ghost use Rattle.migration.specs.Migration.{newEpochCode, newEpochAnswer, resetAnswer};
 use page::queries::Sought;
 use page::sweeps::Sweep;
 use session::Answer;
@@ -24,7 +17,7 @@ pub mod token;
 
 // Whether there is a page of the kind. No page is looked at unless asked.
 fn seen(asked: bool, table: &[u64], k: Sought) -> bool
-    ensures { λ r. ⌜ (asked ≡ true → r ≡ some (sought k) (now (table .entry))) ⌝ }
+    ensures { λ r. ⌜ r ≡ (asked && some (sought k) (now (table .entry))) ⌝ }
 {
     if asked {
         return table::has(table, k);
@@ -34,7 +27,7 @@ fn seen(asked: bool, table: &[u64], k: Sought) -> bool
 
 // What start answers: `gate` is its gate's code, and with 0 `stops` says whether some page cannot start.
 pub fn start_answer(s: Session, gate: u64, stops: bool) -> Answer
-    ensures { λ r. ⌜ ((t : List ℕ) → gate ≡ gated s (length t) (phasesOf Idle) [] → (gate ≡ 0 → stops ≡ some (sought Unstartable) t) → r ≡ startOut s t .answer) ⌝ }
+    ensures { λ r. ⌜ r ≡ startAnswer s gate stops ⌝ }
 {
     if gate != codes::DONE {
         return Answer {
@@ -69,7 +62,7 @@ pub fn start(s: Session, table: &mut [u64]) -> Answer
 
 // What pause answers: `gate` is its gate's code, and with 0 `blocked` says whether some page is blocked.
 pub fn pause_answer(s: Session, gate: u64, blocked: bool) -> Answer
-    ensures { λ r. ⌜ ((t : List ℕ) → gate ≡ gated s (length t) (phasesOf Live) [] → (gate ≡ 0 → blocked ≡ some (sought Blocked) t) → r ≡ pauseOut s t .answer) ⌝ }
+    ensures { λ r. ⌜ r ≡ pauseAnswer s gate blocked ⌝ }
 {
     if gate != codes::DONE {
         return Answer {
@@ -111,7 +104,7 @@ pub fn pause(s: Session, table: &mut [u64]) -> Answer
 
 // What abort answers, of a table of that length.
 pub fn abort_answer(s: Session, len: usize) -> Answer
-    ensures { λ r. ⌜ ((t : List ℕ) → length t ≡ len → r ≡ abortOut s t .answer) ⌝ }
+    ensures { λ r. ⌜ r ≡ abortAnswer s len ⌝ }
 {
     let code = session::gate(s, len, When::Moving);
     if code != codes::DONE {
@@ -151,7 +144,7 @@ fn new_epoch_code(s: Session, len: usize) -> u64
 
 // This and the reset ask of the table its length alone.
 pub fn new_epoch(s: Session, len: usize) -> Answer
-    ensures { λ r. ⌜ ((t : List ℕ) → length t ≡ len → r ≡ newEpochOut s t .answer) ⌝ }
+    ensures { λ r. ⌜ r ≡ newEpochAnswer s len ⌝ }
 {
     let code = new_epoch_code(s, len);
     if code != codes::DONE {
@@ -162,7 +155,7 @@ pub fn new_epoch(s: Session, len: usize) -> Answer
 }
 
 pub fn reset(s: Session, len: usize) -> Answer
-    ensures { λ r. ⌜ ((t : List ℕ) → length t ≡ len → r ≡ resetOut s t .answer) ⌝ }
+    ensures { λ r. ⌜ r ≡ resetAnswer s len ⌝ }
 {
     let code = session::gate(s, len, When::Moving);
     if code != codes::DONE {

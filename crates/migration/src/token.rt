@@ -1,15 +1,12 @@
 // The start token, and what a driver learns where it is refused.
 ghost use mathlib.Core.Path.{_≡_};
-ghost use mathlib.Core.Bool.{true};
-ghost use mathlib.Core.List.{List};
-ghost use Prim.Native.Nat.{ℕ, _≤_};
-ghost use lib.ListN.{length};
-ghost use Rattle.page.specs.Page.{sought, gives53, gives54};
+ghost use mathlib.Core.Bool.{cond};
+ghost use Rattle.page.specs.Page.{sought};
 ghost use Rattle.table.specs.Table.{pageCount, lowest};
 ghost use Rattle.session.specs.Session.{phasesOf};
 ghost use Rattle.session.specs.Formed.{gated};
 ghost use Rattle.session.specs.declared.When.the-variants.{Blackout};
-ghost use Rattle.migration.specs.Token.{tokenNumber, tokenPage, tokenGate, tokenCode, inTheWay, tokenOut};
+ghost use Rattle.migration.specs.Token.{tokenSays, tokenGate, tokenCode, inTheWay, tokenOut, tokenAnswer};
 use page::queries::Sought;
 use session::Phase;
 use session::Session;
@@ -30,7 +27,7 @@ pub struct TokenAnswer {
 
 // The code that a case stands for.
 pub fn number_of(k: Token) -> u64
-    ensures { λ r. ⌜ r ≡ tokenNumber k ⌝ }
+    ensures { λ r. ⌜ r ≡ tokenSays k .code ⌝ }
 {
     match k {
         Token::Granted => codes::DONE,
@@ -41,7 +38,7 @@ pub fn number_of(k: Token) -> u64
 
 // The page that a case names; 0 where it names none.
 pub fn page_of(k: Token) -> usize
-    ensures { λ r. ⌜ r ≡ tokenPage k ⌝ }
+    ensures { λ r. ⌜ r ≡ tokenSays k .page ⌝ }
 {
     match k {
         Token::Granted => 0,
@@ -77,7 +74,7 @@ pub fn token_answer(
     first53: usize,
     first54: usize,
 ) -> TokenAnswer
-    ensures { λ r. ⌜ ((t : List ℕ) → gate ≡ gated s (length t) (phasesOf Blackout) (tokenGate s) → pages ≡ pageCount t → (gate ≡ 0 → first53 ≡ lowest gives53 (pageCount t) 0 t) → (gate ≡ 0 → pages ≤ first53 → first54 ≡ lowest gives54 (pageCount t) 0 t) → r ≡ tokenOut s t) ⌝ }
+    ensures { λ r. ⌜ r ≡ tokenAnswer s gate pages first53 first54 ⌝ }
 {
     if gate != codes::DONE {
         let token = Token::Refused { code: gate };
@@ -106,7 +103,7 @@ pub fn token_answer(
 
 // The lowest page of the kind. No page is looked at unless asked.
 fn first(asked: bool, table: &[u64], k: Sought) -> usize
-    ensures { λ r. ⌜ (asked ≡ true → r ≡ lowest (sought k) (pageCount (now (table .entry))) 0 (now (table .entry))) ⌝ }
+    ensures { λ r. ⌜ r ≡ cond asked (lowest (sought k) (pageCount (now (table .entry))) 0 (now (table .entry))) 0 ⌝ }
 {
     if asked {
         return table::find(table, k);
@@ -116,8 +113,7 @@ fn first(asked: bool, table: &[u64], k: Sought) -> usize
 
 pub fn start_token(s: Session, table: &[u64]) -> TokenAnswer
     ensures { λ r. ⌜ r ≡ tokenOut s (now (table .entry)) ⌝ }
-    ensures { λ r. ⌜ tokenNumber (r .token) ≡ tokenCode s (now (table .entry)) ⌝ }
-    ensures { λ r. ⌜ tokenPage (r .token) ≡ inTheWay (tokenCode s (now (table .entry))) (now (table .entry)) ⌝ }
+    ensures { λ r. ⌜ tokenSays (r .token) ≡ record { code = tokenCode s (now (table .entry)); page = inTheWay (tokenCode s (now (table .entry))) (now (table .entry)) } ⌝ }
 {
     let pages = table.len() / 2;
     let gate = token_gate(s, table.len());

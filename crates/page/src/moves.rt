@@ -1,176 +1,17 @@
-// What a guest or memory call makes of one page: a code, and the page after it; with another code than 0, the page as it was.
+// The guest and memory calls on one page: what each asks of the page, and what it makes of it.
 ghost use mathlib.Core.Path.{_≡_};
-ghost use Rattle.page.specs.Moves.{moveCode, leaveCode, settled, emptied, moved, marked};
-ghost use Rattle.page.specs.Moves.{writeStep, addStep, acceptStep, blockStep, unblockStep, removeStep, stepOf, turnOf};
-use crate::Page;
+ghost use mathlib.Core.Bool.{false, not};
+ghost use mathlib.Core.List.{[], _∷_};
+ghost use lib.Dec.{eqb};
+ghost use Rattle.words.specs.Codes as codes;
+ghost use Rattle.refusals.specs.Refusals.{_gives_, firstOf};
+ghost use Rattle.states.specs.States.{State, numberOf, numberBy, goesBy};
+ghost use Rattle.page.specs.Page.{pageOf, wordsFor, strange, onWords};
+ghost use Rattle.page.specs.Moves.{changesOf, writable, moveTests, stored, emptied, restamped, movedBy};
+use crate::PageWords;
 use crate::queries;
-use crate::records;
-use crate::records::PageWords;
-use states::State;
+use records::Record;
 use words::codes;
-
-pub struct Step {
-    pub code: u64,
-    pub page: Page,
-}
-
-// 45 where the state has no such move.
-fn move_code(to: State) -> u64
-    ensures { λ r. ⌜ r ≡ moveCode to ⌝ }
-{
-    let row = states::row_of(to);
-    if row.strange {
-        return codes::EPT_ENTRY_STATE_INCORRECT;
-    }
-    codes::DONE
-}
-
-// 46 where the page is not blocked, then 47 while old translations of it may be about.
-fn leave_code(to: State, stamp: u64, tlb: u64) -> u64
-    ensures { λ r. ⌜ r ≡ leaveCode to stamp tlb ⌝ }
-{
-    let row = states::row_of(to);
-    let tracked = queries::is_tracked(stamp, tlb);
-    if row.strange {
-        return codes::GPA_RANGE_NOT_BLOCKED;
-    }
-    if tracked {
-        return codes::DONE;
-    }
-    codes::TLB_TRACKING_NOT_DONE
-}
-
-fn settle(code: u64, p: Page, q: Page) -> Step
-    ensures { λ r. ⌜ r ≡ settled code p q ⌝ }
-{
-    if code == codes::DONE {
-        return Step { code, page: q };
-    }
-    Step { code, page: p }
-}
-
-// In another state, with another stamp.
-fn at_state(p: Page, to: State, stamp: u64) -> Page
-    ensures { λ r. ⌜ r ≡ moved p to stamp ⌝ }
-{
-    Page {
-        state: to,
-        dirty: p.dirty,
-        cached: p.cached,
-        stamp,
-        epoch: p.epoch,
-        mark: p.mark,
-    }
-}
-
-// In another state, with nothing in it.
-fn empty(p: Page, to: State) -> Page
-    ensures { λ r. ⌜ r ≡ emptied p to ⌝ }
-{
-    Page {
-        state: to,
-        dirty: false,
-        cached: false,
-        stamp: 0,
-        epoch: p.epoch, // stays, so that one epoch never holds both a CANCEL and a MIGRATE of the page
-        mark: 0,
-    }
-}
-
-fn store_mark(p: Page, dirty: bool, mark: u64) -> Page
-    ensures { λ r. ⌜ r ≡ marked p dirty mark ⌝ }
-{
-    let s = p.state;
-    Page {
-        state: s,
-        dirty,
-        cached: true,
-        stamp: p.stamp,
-        epoch: p.epoch,
-        mark,
-    }
-}
-
-// A processor that has the translation (Cached) writes without telling anybody.
-fn write(p: Page, mark: u64) -> Step
-    ensures { λ r. ⌜ r ≡ writeStep p mark ⌝ }
-{
-    let s = p.state;
-    let row = states::row_of(s);
-    if row.writable {
-        let page = store_mark(p, p.dirty | !p.cached, mark);
-        return Step {
-            code: codes::DONE,
-            page,
-        };
-    }
-    if row.landing & p.cached {
-        let page = store_mark(p, p.dirty, mark);
-        return Step {
-            code: codes::DONE,
-            page,
-        };
-    }
-    Step {
-        code: codes::EPT_ENTRY_STATE_INCORRECT,
-        page: p,
-    }
-}
-
-fn add(p: Page) -> Step
-    ensures { λ r. ⌜ r ≡ addStep p ⌝ }
-{
-    let s = p.state;
-    let row = states::row_of(s);
-    let to = row.add;
-    let code = move_code(to);
-    let page = empty(p, to);
-    settle(code, p, page)
-}
-
-fn accept(p: Page) -> Step
-    ensures { λ r. ⌜ r ≡ acceptStep p ⌝ }
-{
-    let s = p.state;
-    let row = states::row_of(s);
-    let to = row.accept;
-    let code = move_code(to);
-    let page = empty(p, to);
-    settle(code, p, page)
-}
-
-fn block(p: Page, tlb: u64) -> Step
-    ensures { λ r. ⌜ r ≡ blockStep p tlb ⌝ }
-{
-    let s = p.state;
-    let row = states::row_of(s);
-    let to = row.block;
-    let code = move_code(to);
-    let page = at_state(p, to, tlb);
-    settle(code, p, page)
-}
-
-fn unblock(p: Page, tlb: u64) -> Step
-    ensures { λ r. ⌜ r ≡ unblockStep p tlb ⌝ }
-{
-    let s = p.state;
-    let row = states::row_of(s);
-    let to = row.unblock;
-    let code = leave_code(to, p.stamp, tlb);
-    let page = at_state(p, to, 0);
-    settle(code, p, page)
-}
-
-fn remove(p: Page, tlb: u64) -> Step
-    ensures { λ r. ⌜ r ≡ removeStep p tlb ⌝ }
-{
-    let s = p.state;
-    let row = states::row_of(s);
-    let to = row.remove;
-    let code = leave_code(to, p.stamp, tlb);
-    let page = empty(p, to);
-    settle(code, p, page)
-}
 
 // A call on one page, with what it brings.
 pub enum Move {
@@ -182,35 +23,133 @@ pub enum Move {
     Remove,
 }
 
-pub fn take_step(m: Move, p: Page, tlb: u64) -> Step
-    ensures { λ r. ⌜ r ≡ stepOf m p tlb ⌝ }
+// The number of the state to which the call takes a page; the page's own where the call has no move for it.
+fn goal(m: Move, n: u8) -> u8
+    ensures { λ r. ⌜ r ≡ numberBy (changesOf m) n ⌝ }
 {
     match m {
-        Move::Write { mark } => write(p, mark),
-        Move::Add => add(p),
-        Move::Accept => accept(p),
-        Move::Block => block(p, tlb),
-        Move::Unblock => unblock(p, tlb),
-        Move::Remove => remove(p, tlb),
+        Move::Write { mark: _ } => n,
+        Move::Add => states::add_of(n),
+        Move::Accept => states::accept_of(n),
+        Move::Block => states::block_of(n),
+        Move::Unblock => states::unblock_of(n),
+        Move::Remove => states::remove_of(n),
     }
 }
 
-// The same on the page's two words.
-pub struct Turn {
-    pub code: u64,
-    pub words: PageWords,
-}
+// ---- what a call asks of its page
 
-pub fn take_turn(m: Move, w: PageWords, tlb: u64) -> Turn
-    ensures { λ r. ⌜ r ≡ turnOf m w tlb ⌝ }
+// A processor that has the translation (Cached) writes to a blocked page too.
+fn is_writable(w: PageWords) -> bool
+    ensures { λ r. ⌜ r ≡ writable (pageOf w) ⌝ }
 {
-    let before = records::page_of(w);
-    let after = take_step(m, before, tlb);
-    let code = after.code;
-    let page = after.page;
-    if code == codes::DONE {
-        let words = records::write_back(w, page);
-        return Turn { code, words };
+    let n = crate::state_of(w);
+    let p = records::record_of(w.word);
+    states::is_writable(n) | (states::is_landing(n) & p.cached)
+}
+
+// 45 where the state has no such move.
+fn enter_code(able: bool) -> u64
+    ensures { λ r. ⌜ r ≡ firstOf (not able gives codes.eptEntryStateIncorrect ∷ []) ⌝ }
+{
+    if able {
+        codes::DONE
+    } else {
+        codes::EPT_ENTRY_STATE_INCORRECT
     }
-    Turn { code, words: w }
+}
+
+// 46 where the page is not blocked, then 47 while old translations of it may be about.
+fn leave_code(able: bool, tracked: bool) -> u64
+    ensures { λ r. ⌜ r ≡ firstOf (not able gives codes.gpaRangeNotBlocked ∷ not tracked gives codes.tlbTrackingNotDone ∷ []) ⌝ }
+{
+    if !able {
+        return codes::GPA_RANGE_NOT_BLOCKED;
+    }
+    if !tracked {
+        return codes::TLB_TRACKING_NOT_DONE;
+    }
+    codes::DONE
+}
+
+// The first of its tests that holds.
+pub fn move_code(m: Move, w: PageWords, tlb: u64) -> u64
+    ensures { λ r. ⌜ r ≡ firstOf (moveTests m (pageOf w) tlb) ⌝ }
+{
+    let n = crate::state_of(w);
+    let p = records::record_of(w.word);
+    let able = goal(m, n) != n;
+    let tracked = queries::is_tracked(p.stamp, tlb);
+    let writable = is_writable(w);
+    match m {
+        Move::Write { mark: _ } => enter_code(writable),
+        Move::Add => enter_code(able),
+        Move::Accept => enter_code(able),
+        Move::Block => enter_code(able),
+        Move::Unblock => leave_code(able, tracked),
+        Move::Remove => leave_code(able, tracked),
+    }
+}
+
+// ---- what it makes of a page that is not strange
+
+fn store(w: PageWords, mark: u64) -> PageWords
+    ensures { λ r. ⌜ (strange (pageOf w) ≡ false → r ≡ wordsFor (stored (pageOf w) mark)) ⌝ }
+{
+    let p = records::record_of(w.word);
+    let writable = states::is_writable(crate::state_of(w));
+    let seen = records::set_dirty(w.word, p.dirty | (writable & !p.cached));
+    let word = records::set_cached(seen, true);
+    PageWords { word, mark }
+}
+
+// In another state, with nothing in it.
+fn empty(w: PageWords, to: u8) -> PageWords
+    ensures { λ r. ⌜ ((s : State) → strange (pageOf w) ≡ false → to ≡ numberOf s → r ≡ wordsFor (emptied (pageOf w) s)) ⌝ }
+{
+    let p = records::record_of(w.word);
+    let word = records::record_word(Record {
+        state: to,
+        dirty: false,
+        cached: false,
+        spare10: 0,
+        stamp: 0,
+        migrated: p.migrated, // stays, so that one epoch never holds both a CANCEL and a MIGRATE of the page
+        spare48: 0,
+    });
+    PageWords { word, mark: 0 }
+}
+
+// In another state, with another stamp.
+fn restamp(w: PageWords, to: u8, stamp: u64) -> PageWords
+    ensures { λ r. ⌜ ((s : State) → strange (pageOf w) ≡ false → to ≡ numberOf s → r ≡ wordsFor (restamped (pageOf w) s stamp)) ⌝ }
+{
+    let moved = records::set_state(w.word, to);
+    let word = records::set_stamp(moved, stamp);
+    PageWords { word, mark: w.mark }
+}
+
+fn moved(m: Move, w: PageWords, to: u8, tlb: u64) -> PageWords
+    ensures { λ r. ⌜ (strange (pageOf w) ≡ false → to ≡ numberOf (goesBy (changesOf m) (pageOf w .state)) → r ≡ wordsFor (movedBy m tlb (pageOf w))) ⌝ }
+{
+    match m {
+        Move::Write { mark } => store(w, mark),
+        Move::Add => empty(w, to),
+        Move::Accept => empty(w, to),
+        Move::Block => restamp(w, to, tlb),
+        Move::Unblock => restamp(w, to, 0),
+        Move::Remove => empty(w, to),
+    }
+}
+
+// The page's two words once the call is done.
+pub fn move_words(m: Move, w: PageWords, tlb: u64) -> PageWords
+    ensures { λ r. ⌜ r ≡ onWords (movedBy m tlb) w ⌝ }
+{
+    let n = crate::state_of(w);
+    let after = moved(m, w, goal(m, n), tlb);
+    if states::is_strange(n) {
+        return w;
+    }
+    after
 }

@@ -1,7 +1,7 @@
 // What is asked of a page, each by its name.
 ghost use mathlib.Core.Path.{_≡_};
-ghost use Rattle.page.specs.Page.{tracked, blocked, pending, present, unstartable, gives53, gives54, sought};
-use crate::Page;
+ghost use Rattle.page.specs.Page.{pageOf, tracked, strange, blocked, unstartable, gives53, gives54, sought};
+use crate::PageWords;
 
 // Every translation from before the stamp is gone.
 pub fn is_tracked(stamp: u64, tlb: u64) -> bool
@@ -10,56 +10,40 @@ pub fn is_tracked(stamp: u64, tlb: u64) -> bool
     (stamp != 0) & (stamp < tlb)
 }
 
-pub fn is_blocked(p: Page) -> bool
-    ensures { λ r. ⌜ r ≡ blocked p ⌝ }
+pub fn is_strange(w: PageWords) -> bool
+    ensures { λ r. ⌜ r ≡ strange (pageOf w) ⌝ }
 {
-    let s = p.state;
-    let row = states::row_of(s);
-    row.blocked
+    states::is_strange(crate::state_of(w))
 }
 
-pub fn is_pending(p: Page) -> bool
-    ensures { λ r. ⌜ r ≡ pending p ⌝ }
+pub fn is_blocked(w: PageWords) -> bool
+    ensures { λ r. ⌜ r ≡ blocked (pageOf w) ⌝ }
 {
-    let s = p.state;
-    let row = states::row_of(s);
-    row.pending
-}
-
-// The destination holds a copy of it.
-pub fn is_present(p: Page) -> bool
-    ensures { λ r. ⌜ r ≡ present p ⌝ }
-{
-    let s = p.state;
-    let row = states::row_of(s);
-    row.present
+    states::is_blocked(crate::state_of(w))
 }
 
 // A start refuses it.
-pub fn is_unstartable(p: Page) -> bool
-    ensures { λ r. ⌜ r ≡ unstartable p ⌝ }
+fn is_unstartable(w: PageWords) -> bool
+    ensures { λ r. ⌜ r ≡ unstartable (pageOf w) ⌝ }
 {
-    let s = p.state;
-    let row = states::row_of(s);
-    !row.startable
+    !states::is_startable(crate::state_of(w))
 }
 
 // The destination's copy of it is old.
-pub fn gives_53(p: Page) -> bool
-    ensures { λ r. ⌜ r ≡ gives53 p ⌝ }
+fn gives_53(w: PageWords) -> bool
+    ensures { λ r. ⌜ r ≡ gives53 (pageOf w) ⌝ }
 {
-    let s = p.state;
-    let row = states::row_of(s);
-    row.changed | (row.sent & p.dirty)
+    let n = crate::state_of(w);
+    let p = records::record_of(w.word);
+    states::is_changed(n) | (states::is_sent(n) & p.dirty)
 }
 
 // It is memory of which the destination has no copy, or it is strange.
-pub fn gives_54(p: Page) -> bool
-    ensures { λ r. ⌜ r ≡ gives54 p ⌝ }
+fn gives_54(w: PageWords) -> bool
+    ensures { λ r. ⌜ r ≡ gives54 (pageOf w) ⌝ }
 {
-    let s = p.state;
-    let row = states::row_of(s);
-    row.unsent | row.strange
+    let n = crate::state_of(w);
+    states::is_unsent(n) | states::is_strange(n)
 }
 
 // What a call looks for in the whole table.
@@ -70,13 +54,13 @@ pub enum Sought {
     Gives54,
 }
 
-pub fn is_sought(k: Sought, p: Page) -> bool
-    ensures { λ r. ⌜ r ≡ sought k p ⌝ }
+pub fn is_sought(k: Sought, w: PageWords) -> bool
+    ensures { λ r. ⌜ r ≡ sought k (pageOf w) ⌝ }
 {
     match k {
-        Sought::Blocked => is_blocked(p),
-        Sought::Unstartable => is_unstartable(p),
-        Sought::Gives53 => gives_53(p),
-        Sought::Gives54 => gives_54(p),
+        Sought::Blocked => is_blocked(w),
+        Sought::Unstartable => is_unstartable(w),
+        Sought::Gives53 => gives_53(w),
+        Sought::Gives54 => gives_54(w),
     }
 }

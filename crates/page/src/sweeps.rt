@@ -1,61 +1,35 @@
-// What track, start, pause and abort make of every page. A strange one stays as it is. They pass over the whole table, so they set fields of the record's word and never take it apart into a page.
+// What track, start, pause and abort make of every page. A strange one stays as it is.
 ghost use mathlib.Core.Path.{_≡_};
 ghost use mathlib.Core.Bool.{false, cond};
-ghost use Prim.Native.Nat.{_<_};
-ghost use Rattle.words.specs.Record.{recordOf, room, withState, withStamp, withEpoch};
-ghost use Rattle.page.specs.Page.{pageOf, strange, recordFor};
-ghost use Rattle.page.specs.Sweeps.{uncached, started, aborted, sweptBy, sweptWords};
-use crate::records;
-use crate::records::PageWords;
-use states::numbers;
-
-fn kept_stamp(w: u64, stamped: bool) -> u64
-    ensures { λ r. ⌜ r ≡ cond stamped (recordOf w .stamp) 0 ⌝ }
-    ensures { λ r. ⌜ r < room ⌝ }
-{
-    let p = words::records::record_of(w);
-    if stamped {
-        return p.stamp;
-    }
-    0
-}
-
-// In a state, with no trace of an earlier migration.
-fn refresh(w: u64, to: u8, stamped: bool) -> u64
-    ensures { λ r. ⌜ recordOf r ≡ withEpoch (withStamp (withState (recordOf w) to) (cond stamped (recordOf w .stamp) 0)) 0 ⌝ }
-{
-    let stamp = kept_stamp(w, stamped);
-    let moved = words::records::set_state(w, to);
-    let stamped = words::records::set_stamp(moved, stamp);
-    words::records::set_epoch(stamped, 0)
-}
-
-// Each of the three gives the record's word afterwards, if it is not strange.
+ghost use Rattle.states.specs.States.{State, numberOf};
+ghost use Rattle.page.specs.Page.{pageOf, wordsFor, strange, onWords};
+ghost use Rattle.page.specs.Sweeps.{uncached, refreshed, sweptBy};
+use crate::PageWords;
 
 // No processor has its translation any more.
-fn uncache(w: PageWords) -> u64
-    ensures { λ r. ⌜ (strange (pageOf w) ≡ false → recordOf r ≡ recordFor (uncached (pageOf w))) ⌝ }
+fn uncache(w: PageWords) -> PageWords
+    ensures { λ r. ⌜ (strange (pageOf w) ≡ false → r ≡ wordsFor (uncached (pageOf w))) ⌝ }
 {
-    words::records::set_cached(w.word, false)
+    let word = records::set_cached(w.word, false);
+    PageWords { word, mark: w.mark }
 }
 
-// A page that is blocked outside a migration keeps its stamp, so that it can still be unblocked.
-fn start(w: PageWords) -> u64
-    ensures { λ r. ⌜ (strange (pageOf w) ≡ false → recordOf r ≡ recordFor (started (pageOf w))) ⌝ }
+fn kept_stamp(stamped: bool, stamp: u64) -> u64
+    ensures { λ r. ⌜ r ≡ cond stamped stamp 0 ⌝ }
 {
-    let p = words::records::record_of(w.word);
-    let stamped = numbers::is_stamped(p.state);
-    refresh(w.word, p.state, stamped)
+    if stamped { stamp } else { 0 }
 }
 
-// What is blocked now is blocked afterwards, outside a migration.
-fn abort(w: PageWords) -> u64
-    ensures { λ r. ⌜ (strange (pageOf w) ≡ false → recordOf r ≡ recordFor (aborted (pageOf w))) ⌝ }
+// In a state, with no trace of an earlier migration. A page that is blocked outside a migration keeps its stamp, so that it can still be unblocked.
+fn refresh(w: PageWords, to: u8) -> PageWords
+    ensures { λ r. ⌜ ((s : State) → strange (pageOf w) ≡ false → to ≡ numberOf s → r ≡ wordsFor (refreshed (pageOf w) s)) ⌝ }
 {
-    let p = words::records::record_of(w.word);
-    let to = numbers::abort_of(p.state);
-    let stamped = numbers::is_blocked(p.state);
-    refresh(w.word, to, stamped)
+    let p = records::record_of(w.word);
+    let stamp = kept_stamp(states::is_stamped(to), p.stamp);
+    let moved = records::set_state(w.word, to);
+    let stamped = records::set_stamp(moved, stamp);
+    let word = records::set_migrated(stamped, 0);
+    PageWords { word, mark: w.mark }
 }
 
 // A call that changes every page.
@@ -65,24 +39,24 @@ pub enum Sweep {
     Abort,
 }
 
-fn sweep_word(k: Sweep, w: PageWords) -> u64
-    ensures { λ r. ⌜ (strange (pageOf w) ≡ false → recordOf r ≡ recordFor (sweptBy k (pageOf w))) ⌝ }
+fn swept(k: Sweep, w: PageWords, n: u8) -> PageWords
+    ensures { λ r. ⌜ (strange (pageOf w) ≡ false → n ≡ numberOf (pageOf w .state) → r ≡ wordsFor (sweptBy k (pageOf w))) ⌝ }
 {
     match k {
         Sweep::Uncache => uncache(w),
-        Sweep::Start => start(w),
-        Sweep::Abort => abort(w),
+        Sweep::Start => refresh(w, n),
+        Sweep::Abort => refresh(w, states::abort_of(n)),
     }
 }
 
 // The page's two words once it is swept.
 pub fn sweep_words(k: Sweep, w: PageWords) -> PageWords
-    ensures { λ r. ⌜ r ≡ sweptWords (sweptBy k) w ⌝ }
+    ensures { λ r. ⌜ r ≡ onWords (sweptBy k) w ⌝ }
 {
-    let strange = records::is_strange(w);
-    let word = sweep_word(k, w);
-    if strange {
+    let n = crate::state_of(w);
+    let after = swept(k, w, n);
+    if states::is_strange(n) {
         return w;
     }
-    PageWords { word, mark: w.mark }
+    after
 }

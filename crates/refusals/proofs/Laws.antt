@@ -1,6 +1,6 @@
 -- What the code that the first of some tests gives says of all of them.
 use mathlib.Core.Path.{_≡_, refl, sym}
-use mathlib.Core.Bool.{Bool, true, false, cond, not, _&&_, false≢true}
+use mathlib.Core.Bool.{Bool, true, false, cond, not, _&&_, _||_, false≢true}
 use mathlib.Core.List.{List, [], _∷_}
 use Prim.Native.Nat.{ℕ, zero, suc, _<_}
 use native.Mathlib.Omega.{arith}
@@ -38,6 +38,14 @@ not-true false e = refl
 pub not-false : (b : Bool) → not b ≡ false → b ≡ true
 not-false true e = refl
 not-false false e = absurd (false≢true (sym e))
+
+pub or-left-false : (a b : Bool) → (a || b) ≡ false → a ≡ false
+or-left-false true b e = absurd (false≢true (sym e))
+or-left-false false b e = refl
+
+pub or-right-false : (a b : Bool) → (a || b) ≡ false → b ≡ false
+or-right-false true b e = absurd (false≢true (sym e))
+or-right-false false b e = e
 
 pub passed : (l : List Test) → coded l ≡ true → firstOf l ≡ 0 → Passed l
 passed [] k e = tt

@@ -8,38 +8,38 @@ use lib.ListN.{length, set, length-take, length-drop}
 use lib.Dec.{leb}
 use borrow.Author.Tests.{le-leb, lt-leb, leb-true, leb-false, eq-eqb, ne-eqb}
 use Rattle.refusals.proofs.Laws.{passed, and-right, not-false}
-use Rattle.page.specs.declared.records.PageWords.{PageWords}
+use Rattle.page.specs.Page.{pageOf, blocked, onWords}
+use Rattle.page.specs.declared.PageWords.{PageWords}
 use Rattle.table.specs.Table.{mostPages, wordsAt, putAt}
 use Rattle.session.specs.declared.Phase.the-variants.{Live, Blackout}
 use Rattle.session.specs.declared.Session.{Session}
 use Rattle.session.proofs.Laws.{gate-open}
 use Rattle.session.proofs.FormedLaws.{formed-means}
-use Rattle.scan.specs.Look.{lookOf}
+use Rattle.scan.specs.Look.{listed, listedWord, listedPage, lookOf}
 use Rattle.scan.specs.Scan.{stopTests, stopCode, endCode, ScanOut, stop, scanRun, partOf, withinTable, dscanTests, dscanCode, dcheckTests, dcheckCode}
-use Rattle.scan.specs.declared.looks.Look.{Look}
 use Rattle.scan.specs.declared.Scan.{Scan}
 
 -- ---- a turn of the run
 
 -- where the page is visited, the list has room for it
-pub stop-room : (scan : Scan) (f : Look) (i put room : ℕ) → stopCode scan f i put room ≡ 0 → f .listed ≡ true → put < room
+pub stop-room : (scan : Scan) (b l : Bool) (i put room : ℕ) → stopCode scan b l i put room ≡ 0 → l ≡ true → put < room
 unfolding stopCode
-stop-room scan f i put room e h = leb-false room put (rw h at (passed (stopTests scan f i put room) refl e .1 .1 .0))
+stop-room scan b l i put room e h = leb-false room put (rw h at (passed (stopTests scan b l i put room) refl e .1 .1 .0))
 
 -- a page that is left is one more than those left after it
 more : (n i : ℕ) → i < n → n - i ≡ suc (n - (i + 1))
 more n i h = omega arith
 
-module _ (n : ℕ) (scan : Scan) (i put : ℕ) (part list : List ℕ) (w : PageWords) (f : Look) (code : ℕ) (inside : i < n) (loaded : w ≡ wordsAt part i) (found : f ≡ lookOf w (scan .first + i) (scan .tlb)) (coded : code ≡ stopCode scan f i put (length list)) where
+module _ (n : ℕ) (scan : Scan) (i put : ℕ) (part list : List ℕ) (w : PageWords) (b l : Bool) (code : ℕ) (inside : i < n) (loaded : w ≡ wordsAt part i) (shut : b ≡ blocked (pageOf w)) (found : l ≡ listed (pageOf w)) (coded : code ≡ stopCode scan b l i put (length list)) where
   -- a code ends the run
   pub scan-stops : (code ≡ 0 → ⊥) → scanRun (n - i) scan i put part list ≡ stop code (scan .first + i) put part list
-  unfolding scanRun
-  scan-stops e = rw (more n i inside, ← loaded, ← found, ← coded, ne-eqb _ _ e)
+  unfolding scanRun lookOf
+  scan-stops e = rw (more n i inside, ← loaded, ← shut, ← found, ← coded, ne-eqb _ _ e)
 
   -- without one it goes on to the next page
-  pub scan-visits : code ≡ 0 → scanRun (n - i) scan i put part list ≡ scanRun (n - (i + 1)) scan (i + 1) (cond (f .listed) (put + 1) put) (cond (f .listed) (putAt part i (f .words)) part) (cond (f .listed) (set list put (f .word)) list)
-  unfolding scanRun
-  scan-visits e = rw (more n i inside, ← loaded, ← found, ← coded, eq-eqb _ _ e)
+  pub scan-visits : code ≡ 0 → scanRun (n - i) scan i put part list ≡ scanRun (n - (i + 1)) scan (i + 1) (cond l (put + 1) put) (cond l (putAt part i (onWords (listedPage (scan .tlb)) w)) part) (cond l (set list put (listedWord (pageOf w .state) (scan .first + i))) list)
+  unfolding scanRun lookOf
+  scan-visits e = rw (more n i inside, ← loaded, ← shut, ← found, ← coded, eq-eqb _ _ e)
 
 -- past the last page
 pub scan-ends : (n : ℕ) (scan : Scan) (i put : ℕ) (part list : List ℕ) (code : ℕ) → n ≤ i → code ≡ endCode (scan .checking) → scanRun (n - i) scan i put part list ≡ stop code (scan .first + i) put part list

@@ -1,27 +1,22 @@
 -- What a scan leaves: a page that it lists is one that a table can hold, a strange page stays, and no scan that ran answers a refusal's code.
-use mathlib.Core.Path.{_≡_, refl, sym, _∙_}
-use mathlib.Core.Bool.{Bool, true, false, true≢false}
+use mathlib.Core.Path.{_≡_, refl, _∙_}
+use mathlib.Core.Bool.{Bool, true, false}
 use mathlib.Core.List.{List}
-use Prim.Native.Nat.{ℕ, zero, suc, _+_, _-_, _<_}
+use Prim.Native.Nat.{ℕ, zero, suc, _+_, _-_, _^_, _<_}
 use lib.Dec.{eqb}
 use lib.ListN.{length}
 use borrow.Author.Tests.{eqb-true}
 use Rattle.words.specs.Codes as codes
-use Rattle.words.specs.Record.{room}
 use Rattle.refusals.proofs.Laws.{either, first-all}
-use Rattle.states.specs.Rows.{rowOf}
-use Rattle.states.specs.Lists.{looks, listingOf}
-use Rattle.states.specs.declared.State.{State}
-use Rattle.states.specs.declared.State.the-variants.{Strange}
-use Rattle.states.proofs.Laws.{taken-each}
-use Rattle.page.specs.Page.{pageOf, strange}
-use Rattle.page.specs.declared.Page.{Page}
-use Rattle.page.specs.declared.records.PageWords.{PageWords}
-use Rattle.page.proofs.Laws.{Becomes, page-becomes}
-use Rattle.page.proofs.MoveLaws.{strange-state}
+use Rattle.states.specs.States.{State, isStrange, isIn, goesBy}
+use Rattle.states.specs.Lists.{looks, renewedStates}
+use Rattle.states.proofs.Laws.{strange-is, goes-each}
+use Rattle.page.specs.Page.{Page, pageOf, strange, unlessStrange}
+use Rattle.page.specs.declared.PageWords.{PageWords}
+use Rattle.page.proofs.Laws.{Held, read-held, page-moved}
 use Rattle.table.specs.Table.{wordsAt, pageAt}
 use Rattle.session.specs.declared.Session.{Session}
-use Rattle.scan.specs.Look.{listedPage, lookOf}
+use Rattle.scan.specs.Look.{renewed, listedPage, lookOf}
 use Rattle.scan.specs.Scan.{stopTests, stopCode, endCode, ScanOut, scanRun, rangeRun, answerOf, ScanOutcome, refusedScan, ranScan, dscanCode, dscanOf, dscanOut, dcheckCode, dcheckOf, checkedBy, dcheckOut}
 use Rattle.scan.specs.declared.Scan.{Scan}
 use Rattle.scan.specs.declared.Scanned.{Scanned}
@@ -31,30 +26,26 @@ use Rattle.scan.proofs.RangeLaws.{range-strange}
 
 -- ---- a page that is listed
 
--- being listed takes no state to Strange that is not there already
-look-known : (z : State) → rowOf z .strange ≡ false → rowOf (listingOf z .look) .strange ≡ false
-unfolding listingOf rowOf
-look-known z e = taken-each (λ (x to : State). rowOf to .strange ≡ false) looks (refl, (refl, tt)) z z e
+-- being listed makes of a page that a record holds another such page
+listed-held : (tlb : ℕ) → tlb < 2 ^ 16 → (p : Page) → Held p → Held (listedPage tlb p)
+unfolding renewed isStrange
+listed-held tlb r p h =
+    let known = goes-each (λ (x to : State). isStrange to ≡ false) looks (refl, (refl, tt)) (p .state) (h .known) in
+    either (λ (q : Page). Held q) (isIn (goesBy looks (p .state)) renewedStates)
+    (λ e. record { known = known; stamp = r; migrated = h .migrated })
+    (λ e. record { known = known; stamp = h .stamp; migrated = h .migrated })
 
-strange-unlooked : (z : State) → z ≡ Strange → listingOf z .renewed ≡ false
-unfolding listingOf
-strange-unlooked z e = rw e
-
-listed-becomes : (p : Page) (tlb : ℕ) → tlb < room → Becomes p (listedPage p tlb)
-unfolding listedPage
-listed-becomes p tlb r =
-    either (λ (q : Page). Becomes p q) (listingOf (p .state) .renewed)
-    (λ q.
-    record {
-      stays = λ s. absurd (true≢false (sym q ∙ strange-unlooked (p .state) (strange-state p s)));
-      holds = λ h. record { known = look-known (p .state) (h .known); stamp = r; epoch = h .epoch };
-    })
-    (λ q. record { stays = λ s. refl; holds = λ h. h })
+-- a strange page stays as it is
+listed-strange : (tlb : ℕ) (p : Page) → strange p ≡ true → p ≡ listedPage tlb p
+unfolding renewed goesBy isIn
+listed-strange tlb p e = rw (strange-is (p .state) e)
 
 -- what its words say afterwards
-pub look-page : (w : PageWords) (number tlb : ℕ) → tlb < room → pageOf (lookOf w number tlb .words) ≡ listedPage (pageOf w) tlb
-unfolding lookOf
-look-page w number tlb r = page-becomes w (listedPage (pageOf w) tlb) (listed-becomes (pageOf w) tlb r)
+pub look-page : (w : PageWords) (number tlb : ℕ) → tlb < 2 ^ 16 → pageOf (lookOf w number tlb .words) ≡ listedPage tlb (pageOf w)
+unfolding lookOf unlessStrange
+look-page w number tlb r =
+    page-moved (listedPage tlb) w (λ e. listed-held tlb r (pageOf w) (read-held w e))
+    ∙ either (λ (q : Page). q ≡ listedPage tlb (pageOf w)) (strange (pageOf w)) (listed-strange tlb (pageOf w)) (λ e. refl)
 
 -- ---- the answer of a scan that ran
 
@@ -83,9 +74,9 @@ module _ (f : ℕ → Bool) (h : OfScans f) where
   run-code zero scan i put part list = either (λ (n : ℕ). f n ≡ true) (scan .checking) (λ e. h .complete) (λ e. h .done)
   run-code (suc n) scan i put part list =
       let look = lookOf (wordsAt part i) (scan .first + i) (scan .tlb) in
-      either (λ (o : ScanOut). f (o .scanned .code) ≡ true) (eqb (stopCode scan look i put (length list)) 0)
+      either (λ (o : ScanOut). f (o .scanned .code) ≡ true) (eqb (stopCode scan (look .blocked) (look .listed) i put (length list)) 0)
       (λ e. run-code n scan (i + 1) _ _ _)
-      (λ e. first-all f (stopTests scan look i put (length list)) (h .done) (rw (h .interrupted, h .blocked, h .full)))
+      (λ e. first-all f (stopTests scan (look .blocked) (look .listed) i put (length list)) (h .done) (rw (h .interrupted, h .blocked, h .full)))
 
   pub range-code : (count : ℕ) (scan : Scan) (t l : List ℕ) (s : Session) → f (answerOf (rangeRun count scan t l .scanned) s .code) ≡ true
   unfolding rangeRun

@@ -1,7 +1,7 @@
 -- What a scan of a range makes of each page of the table: one outside it stays, and one in it stays or is listed.
 use mathlib.Core.Path.{_≡_, refl, sym, subst, _∙_}
 use mathlib.Core.Logic.{_⊎_, inl, inr, ⊎-elim}
-use mathlib.Core.Bool.{true, false, cond, false≢true}
+use mathlib.Core.Bool.{true, cond}
 use mathlib.Core.List.{List, _++_}
 use Prim.Native.Nat.{ℕ, zero, suc, _+_, _-_, _*_, _≤_, _<_}
 use native.Mathlib.Omega.{arith}
@@ -12,14 +12,12 @@ use lib.ListN.{length, getD, set, take, drop, length-take, length-drop, length-a
 use borrow.Author.Tests.{lt-ltb}
 use lib.Seq.{getD-take, getD-drop, getD-append-add, length-front}
 use Rattle.refusals.proofs.Laws.{either}
-use Rattle.states.specs.Lists.{listingOf}
-use Rattle.page.proofs.MoveLaws.{strange-state}
 use Rattle.page.specs.Page.{strange}
-use Rattle.page.specs.declared.Page.{Page}
-use Rattle.page.specs.declared.records.PageWords.{PageWords}
+use Rattle.page.proofs.Laws.{words-stay}
+use Rattle.page.specs.declared.PageWords.{PageWords}
 use Rattle.table.specs.Table.{pageCount, wordsAt, pageAt, putAt}
 use Rattle.table.proofs.Laws.{put-length, put-same, put-other}
-use Rattle.scan.specs.Look.{listed, lookOf, LookedAt}
+use Rattle.scan.specs.Look.{listedPage, lookOf, LookedAt}
 use Rattle.scan.specs.Scan.{stopCode, ScanOut, scanRun, partOf, patched, rangeRun}
 use Rattle.scan.specs.declared.Scan.{Scan}
 use Rattle.scan.proofs.Laws.{part-length}
@@ -52,7 +50,7 @@ unfolding scanRun
 run-length zero scan i put part list = refl
 run-length (suc n) scan i put part list =
     let f = lookOf (wordsAt part i) (scan .first + i) (scan .tlb) in
-    either (λ (o : ScanOut). length (o .part) ≡ length part) (eqb (stopCode scan f i put (length list)) 0)
+    either (λ (o : ScanOut). length (o .part) ≡ length part) (eqb (stopCode scan (f .blocked) (f .listed) i put (length list)) 0)
     (λ e. run-length n scan (i + 1) _ (visited scan i part) _ ∙ visited-length scan i part)
     (λ e. refl)
 
@@ -62,7 +60,7 @@ unfolding scanRun
 run-passed zero scan i put part list k h = refl
 run-passed (suc n) scan i put part list k h =
     let f = lookOf (wordsAt part i) (scan .first + i) (scan .tlb) in
-    either (λ (o : ScanOut). wordsAt (o .part) k ≡ wordsAt part k) (eqb (stopCode scan f i put (length list)) 0)
+    either (λ (o : ScanOut). wordsAt (o .part) k ≡ wordsAt part k) (eqb (stopCode scan (f .blocked) (f .listed) i put (length list)) 0)
     (λ e. run-passed n scan (i + 1) _ (visited scan i part) _ k (omega arith) ∙ visited-other scan i part k (λ q. omega arith))
     (λ e. refl)
 
@@ -76,7 +74,7 @@ run-page (suc n) scan i put part list k a b =
     let put′ = cond (f .listed) (put + 1) put in
     let list′ = cond (f .listed) (set list put (f .word)) list in
     let size : length p ≡ length part = visited-length scan i part in
-    either (λ (o : ScanOut). LookedAt (scan .first + k) (scan .tlb) (wordsAt part k) (wordsAt (o .part) k)) (eqb (stopCode scan f i put (length list)) 0)
+    either (λ (o : ScanOut). LookedAt (scan .first + k) (scan .tlb) (wordsAt part k) (wordsAt (o .part) k)) (eqb (stopCode scan (f .blocked) (f .listed) i put (length list)) 0)
     (λ e.
     ⊎-elim
     (λ q.
@@ -164,11 +162,6 @@ unfolding rangeRun
 range-length count scan t l =
     patched-length t (scan .first) count (scanRun count scan 0 0 (partOf t (scan .first) count) l .part) (run-length count scan 0 0 (partOf t (scan .first) count) l)
 
--- a strange page is not listed
-strange-listed : (p : Page) → strange p ≡ true → listed p ≡ false
-unfolding listed listingOf
-strange-listed p e = rw (strange-state p e)
-
 module _ (count : ℕ) (scan : Scan) (t l : List ℕ) (fits : 2 * scan .first + 2 * count ≤ length t) where
   abbrev run : List ℕ
   run = scanRun count scan 0 0 (partOf t (scan .first) count) l .part
@@ -202,4 +195,4 @@ module _ (count : ℕ) (scan : Scan) (t l : List ℕ) (fits : 2 * scan .first + 
   -- a strange page keeps its words
   pub range-strange : (k : ℕ) → strange (pageAt t k) ≡ true → wordsAt (rangeRun count scan t l .part) k ≡ wordsAt t k
   unfolding lookOf
-  range-strange k s = ⊎-elim (λ same. same) (λ seen. absurd (false≢true (sym (strange-listed (pageAt t k) s) ∙ seen .0))) (range-page k)
+  range-strange k s = ⊎-elim (λ same. same) (λ seen. seen .1 ∙ words-stay (listedPage (scan .tlb)) (wordsAt t k) s) (range-page k)

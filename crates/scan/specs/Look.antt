@@ -5,24 +5,22 @@ use mathlib.Core.Bool.{Bool, true, false, cond, _&&_, _||_}
 use Prim.Native.Nat.{ℕ}
 use Rattle.words.specs.Entry.{entryWord}
 use Rattle.words.specs.Operations as operations
-use Rattle.states.specs.Lists.{listingOf}
-use Rattle.states.specs.declared.State.{State}
-use Rattle.page.specs.Page.{pageOf, written, blocked}
-use Rattle.page.specs.declared.Page.{Page}
-use Rattle.page.specs.declared.records.PageWords.{PageWords}
-use Rattle.scan.specs.declared.looks.Look.{Look}
+use Rattle.states.specs.States.{State, isIn, goesBy, numberIn}
+use Rattle.states.specs.Lists.{pendingStates, listedStates, sentStates, hinted, looks, renewedStates}
+use Rattle.page.specs.Page.{Page, pageOf, onWords, blocked}
+use Rattle.page.specs.declared.PageWords.{PageWords}
 
 -- 2, 4, 25, 30, 27; and 24, 29 with Dirty; 26, 31 in a DSCAN, a DCHECK ending there
 unfoldable pub listed : Page → Bool
-listed p = listingOf (p .state) .listed || (listingOf (p .state) .sent && p .dirty)
+listed p = isIn (p .state) listedStates || (isIn (p .state) sentStates && p .dirty)
 
 -- OPERATION 1, the GPA, the hint as STATE, PENDING 1 for 2, 29, 30, 31, all else 0
 unfoldable pub listedWord : State → ℕ → ℕ
 listedWord s number =
     entryWord (record {
       level = 0;
-      pending = listingOf s .pending;
-      state = listingOf s .hint;
+      pending = isIn s pendingStates;
+      state = numberIn hinted s;
       reserved5 = 0;
       «l2_map» = 0;
       «mig_type» = 0;
@@ -33,17 +31,32 @@ listedWord s number =
       reserved61 = 0;
     })
 
--- a listed 24 becomes 25 and 29 becomes 30; a listed page in 2, 4, 25, 30 then has Dirty 0 and stamp equal to the TLB epoch; nothing else changes
-unfoldable pub listedPage : Page → ℕ → Page
-listedPage p tlb =
-    cond (listingOf (p .state) .renewed)
-    (record { state = listingOf (p .state) .look; dirty = false; cached = p .cached; stamp = tlb; epoch = p .epoch; mark = p .mark })
+-- a listed 24 becomes 25 and 29 becomes 30
+abbrev pub looked : Page → Page
+looked p = record { state = goesBy looks (p .state); dirty = p .dirty; cached = p .cached; stamp = p .stamp; migrated = p .migrated; mark = p .mark }
+
+-- a listed page in 2, 4, 25, 30 then has Dirty 0 and stamp equal to the TLB epoch
+unfoldable pub renewed : ℕ → Page → Page
+renewed tlb p =
+    cond (isIn (p .state) renewedStates)
+    (record { state = p .state; dirty = false; cached = p .cached; stamp = tlb; migrated = p .migrated; mark = p .mark })
     p
+
+-- nothing else changes
+abbrev pub listedPage : ℕ → Page → Page
+listedPage tlb p = renewed tlb (looked p)
+
+-- what a scan finds: whether the page is blocked, and whether it is listed; then its word in the list, and its own words afterwards
+pub record Look : Type 0 where
+  pub blocked : Bool
+  pub listed : Bool
+  pub word : ℕ
+  pub words : PageWords
 
 unfoldable pub lookOf : PageWords → ℕ → ℕ → Look
 lookOf w number tlb =
     let p = pageOf w in
-    record { blocked = blocked p; listed = listed p; word = listedWord (p .state) number; words = written w (listedPage p tlb) }
+    record { blocked = blocked p; listed = listed p; word = listedWord (p .state) number; words = onWords (listedPage tlb) w }
 
 -- what a scan makes of a page's two words: it leaves them, or lists the page
 abbrev pub LookedAt : ℕ → ℕ → PageWords → PageWords → Type 0

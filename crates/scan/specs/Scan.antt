@@ -12,7 +12,6 @@ use Rattle.session.specs.Formed.{gated, mostEntries, lastEntry}
 use Rattle.session.specs.declared.Phase.the-variants.{Live, Blackout}
 use Rattle.session.specs.declared.Session.{Session}
 use Rattle.scan.specs.Look.{lookOf}
-use Rattle.scan.specs.declared.looks.Look.{Look}
 use Rattle.scan.specs.declared.Scan.{Scan}
 use Rattle.scan.specs.declared.Scanned.{Scanned}
 use Rattle.scan.specs.declared.ScanAnswer.{ScanAnswer}
@@ -20,15 +19,15 @@ use Rattle.scan.specs.declared.ScanAnswer.{ScanAnswer}
 -- ---- the run
 
 -- budget spent, 1; in DCHECK a blocked page, 51; to be listed and no room, 2
-abbrev pub stopTests : Scan → Look → ℕ → ℕ → ℕ → List Test
-stopTests scan f i put room =
+abbrev pub stopTests : Scan → Bool → Bool → ℕ → ℕ → ℕ → List Test
+stopTests scan blocked listed i put room =
     leb (scan .budget) i gives codes.interrupted
-    ∷ (scan .checking && f .blocked) gives codes.memScanFailedBlockedRange
-    ∷ (f .listed && leb room put) gives codes.listFull
+    ∷ (scan .checking && blocked) gives codes.memScanFailedBlockedRange
+    ∷ (listed && leb room put) gives codes.listFull
     ∷ []
 
-unfoldable pub stopCode : Scan → Look → ℕ → ℕ → ℕ → ℕ
-stopCode scan f i put room = firstOf (stopTests scan f i put room)
+unfoldable pub stopCode : Scan → Bool → Bool → ℕ → ℕ → ℕ → ℕ
+stopCode scan blocked listed i put room = firstOf (stopTests scan blocked listed i put room)
 
 -- past the end, 0; in DCHECK 3
 unfoldable pub endCode : Bool → ℕ
@@ -48,7 +47,7 @@ unfoldable pub scanRun : ℕ → Scan → ℕ → ℕ → List ℕ → List ℕ 
 scanRun zero scan i put part list = stop (endCode (scan .checking)) (scan .first + i) put part list
 scanRun (suc left) scan i put part list =
     let f = lookOf (wordsAt part i) (scan .first + i) (scan .tlb) in
-    let code = stopCode scan f i put (length list) in
+    let code = stopCode scan (f .blocked) (f .listed) i put (length list) in
     cond (eqb code codes.done)
     (scanRun left scan (i + 1)
     (cond (f .listed) (put + 1) put)

@@ -3,10 +3,13 @@ ghost use mathlib.Core.Path.{_≡_};
 ghost use mathlib.Core.Bool.{cond, true};
 ghost use Prim.Native.Nat.{_+_, _*_, _/_, _≤_, _<_};
 ghost use lib.ListN.{length, set};
+ghost use Rattle.page.specs.Page.{pageOf, onWords};
 ghost use Rattle.table.specs.Table.{mostPages, putAt};
+ghost use Rattle.scan.specs.Look.{listedWord, listedPage};
 ghost use Rattle.scan.specs.Scan.{stopCode, endCode, scanRun, rangeRun, answerOf, refusedAnswer, checkedBy};
 ghost use Rattle.scan.specs.Scan.{withinTable, dscanCode, dscanOut, dcheckCode, dcheckOut};
-use crate::looks::Look;
+use page::PageWords;
+use page::queries;
 use session::Check;
 use session::Session;
 use session::When;
@@ -45,16 +48,16 @@ pub struct ScanAnswer {
 // ---- the run
 
 // Why a scan does not visit the page that it stands at, with `i` pages passed and `put` words written; 0 if it does.
-fn stop_code(scan: Scan, found: Look, i: usize, put: usize, room: usize) -> u64
-    ensures { λ r. ⌜ r ≡ stopCode scan found i put room ⌝ }
+fn stop_code(scan: Scan, blocked: bool, listed: bool, i: usize, put: usize, room: usize) -> u64
+    ensures { λ r. ⌜ r ≡ stopCode scan blocked listed i put room ⌝ }
 {
     let spent = scan.budget <= i;
-    let blocked = scan.checking & found.blocked;
-    let full = found.listed & (room <= put);
+    let ends = scan.checking & blocked;
+    let full = listed & (room <= put);
     if spent {
         return codes::INTERRUPTED;
     }
-    if blocked {
+    if ends {
         return codes::MEM_SCAN_FAILED_BLOCKED_RANGE;
     }
     if full {
@@ -75,17 +78,26 @@ fn end_code(checking: bool) -> u64
 }
 
 // A page that is listed goes into the part, and its word into the list; how many words are then written.
-fn visit(part: &mut [u64], list: &mut [u64], i: usize, put: usize, found: Look) -> usize
-    requires { ⌜ (found .listed ≡ true → put < length (now list)) ⌝ }
-    ensures { λ r. ⌜ r ≡ cond (found .listed) (put + 1) put ⌝ }
-    ensures { λ _. ⌜ now (part .exit) ≡ cond (found .listed) (putAt (now (part .entry)) i (found .words)) (now (part .entry)) ⌝ }
-    ensures { λ _. ⌜ now (list .exit) ≡ cond (found .listed) (set (now (list .entry)) put (found .word)) (now (list .entry)) ⌝ }
+fn visit(
+    part: &mut [u64],
+    list: &mut [u64],
+    i: usize,
+    put: usize,
+    w: PageWords,
+    listed: bool,
+    number: usize,
+    tlb: u64,
+) -> usize
+    requires { ⌜ (listed ≡ true → put < length (now list)) ⌝ }
+    ensures { λ r. ⌜ r ≡ cond listed (put + 1) put ⌝ }
+    ensures { λ _. ⌜ now (part .exit) ≡ cond listed (putAt (now (part .entry)) i (onWords (listedPage tlb) w)) (now (part .entry)) ⌝ }
+    ensures { λ _. ⌜ now (list .exit) ≡ cond listed (set (now (list .entry)) put (listedWord (pageOf w .state) number)) (now (list .entry)) ⌝ }
 {
-    let listed = found.listed;
     if listed {
-        let after = found.words;
+        let after = looks::listed_words(w, tlb);
+        let word = looks::listed_word(w, number);
         table::store(part, i, after);
-        list[put] = found.word;
+        list[put] = word;
         return put + 1;
     }
     put
@@ -103,8 +115,9 @@ fn scan_part(part: &mut [u64], list: &mut [u64], scan: Scan) -> Scanned
     let mut put: usize = 0;
     while i < n {
         let words = table::load(&part[..], i);
-        let found = looks::look_at(words, scan.first + i, scan.tlb);
-        let code = stop_code(scan, found, i, put, list.len());
+        let blocked = queries::is_blocked(words);
+        let listed = looks::is_listed(words);
+        let code = stop_code(scan, blocked, listed, i, put, list.len());
         if code != codes::DONE {
             return Scanned {
                 code,
@@ -112,7 +125,7 @@ fn scan_part(part: &mut [u64], list: &mut [u64], scan: Scan) -> Scanned
                 put,
             };
         }
-        put = visit(part, list, i, put, found);
+        put = visit(part, list, i, put, words, listed, scan.first + i, scan.tlb);
         i = i + 1;
     }
     let code = end_code(scan.checking);

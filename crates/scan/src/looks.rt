@@ -1,43 +1,34 @@
-// One look at a page, for both scans.
+// One look at a page, for both scans: whether it is listed, and then what becomes of it.
 ghost use mathlib.Core.Path.{_≡_};
-ghost use Prim.Native.Nat.{_<_};
-ghost use Rattle.table.specs.Table.{mostPages};
-ghost use Rattle.scan.specs.Look.{listed, listedWord, listedPage, lookOf};
-use page::Page;
-use page::queries;
-use page::records;
-use page::records::PageWords;
-use states::State;
-use states::lists;
+ghost use mathlib.Core.Bool.{false};
+ghost use Rattle.states.specs.States.{numberOf, goesBy};
+ghost use Rattle.states.specs.Lists.{looks};
+ghost use Rattle.page.specs.Page.{pageOf, strange, wordsFor, onWords};
+ghost use Rattle.scan.specs.Look.{listed, listedWord, listedPage};
+use page::PageWords;
 use words::entries;
 use words::entries::Entry;
 use words::operations;
 
-// What a scan finds: whether the page is blocked, and whether it is listed; then its word in the list, and its own words afterwards.
-pub struct Look {
-    pub blocked: bool,
-    pub listed: bool,
-    pub word: u64,
-    pub words: PageWords,
+pub(crate) fn is_listed(w: PageWords) -> bool
+    ensures { λ r. ⌜ r ≡ listed (pageOf w) ⌝ }
+{
+    let n = page::state_of(w);
+    let p = records::record_of(w.word);
+    states::is_listed(n) | (states::is_sent(n) & p.dirty)
 }
 
-fn is_listed(p: Page) -> bool
-    ensures { λ r. ⌜ r ≡ listed p ⌝ }
+// Its word in the list.
+pub(crate) fn listed_word(w: PageWords, number: usize) -> u64
+    ensures { λ r. ⌜ r ≡ listedWord (pageOf w .state) number ⌝ }
 {
-    let s = p.state;
-    let row = lists::listing_of(s);
-    row.listed | (row.sent & p.dirty)
-}
-
-fn listed_word(s: State, number: usize) -> u64
-    requires { ⌜ number < mostPages ⌝ }
-    ensures { λ r. ⌜ r ≡ listedWord s number ⌝ }
-{
-    let row = lists::listing_of(s);
+    let n = page::state_of(w);
+    let pending = states::is_pending(n);
+    let hint = states::hint_of(n);
     entries::entry_word(Entry {
         level: 0,
-        pending: row.pending,
-        state: row.hint,
+        pending,
+        state: hint,
         reserved5: 0,
         l2_map: 0,
         mig_type: 0,
@@ -49,41 +40,29 @@ fn listed_word(s: State, number: usize) -> u64
     })
 }
 
-// The page once it is listed.
-fn listed_page(p: Page, tlb: u64) -> Page
-    ensures { λ r. ⌜ r ≡ listedPage p tlb ⌝ }
+// The page's own words, if it is not strange.
+fn list(w: PageWords, to: u8, tlb: u64) -> PageWords
+    ensures { λ r. ⌜ (strange (pageOf w) ≡ false → to ≡ numberOf (goesBy looks (pageOf w .state)) → r ≡ wordsFor (listedPage tlb (pageOf w))) ⌝ }
 {
-    let s = p.state;
-    let row = lists::listing_of(s);
-    let to = row.look;
-    if row.renewed {
-        return Page {
-            state: to,
-            dirty: false,
-            cached: p.cached,
-            stamp: tlb,
-            epoch: p.epoch,
-            mark: p.mark,
-        };
+    let moved = records::set_state(w.word, to); // what was sent is not the page's any more
+    if states::is_renewed(to) {
+        let clean = records::set_dirty(moved, false);
+        let word = records::set_stamp(clean, tlb);
+        return PageWords { word, mark: w.mark };
     }
-    p
+    PageWords {
+        word: moved,
+        mark: w.mark,
+    }
 }
 
-pub(crate) fn look_at(w: PageWords, number: usize, tlb: u64) -> Look
-    requires { ⌜ number < mostPages ⌝ }
-    ensures { λ r. ⌜ r ≡ lookOf w number tlb ⌝ }
+pub(crate) fn listed_words(w: PageWords, tlb: u64) -> PageWords
+    ensures { λ r. ⌜ r ≡ onWords (listedPage tlb) w ⌝ }
 {
-    let p = records::page_of(w);
-    let s = p.state;
-    let blocked = queries::is_blocked(p);
-    let listed = is_listed(p);
-    let word = listed_word(s, number);
-    let after = listed_page(p, tlb);
-    let words = records::write_back(w, after);
-    Look {
-        blocked,
-        listed,
-        word,
-        words,
+    let n = page::state_of(w);
+    let after = list(w, states::look_of(n), tlb);
+    if states::is_strange(n) {
+        return w;
     }
+    after
 }

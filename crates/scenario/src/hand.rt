@@ -5,7 +5,7 @@ use session::Check;
 use session::Phase;
 use session::Session;
 use session::streams;
-use session::streams::Run;
+use session::streams::Work;
 
 // The session that a scenario begins with.
 pub(crate) fn zeros() -> Session {
@@ -52,15 +52,15 @@ pub(crate) fn changed(s: Session, l: Line) -> Session {
         names::COMPLETE => next.check.complete = on,
         names::FAILED => next.check.failed = on,
         names::STREAM => {
-            let run = Run::Interrupted {
+            let work = Work::Interrupted {
                 next: l.second,
                 last: l.third,
                 errors: l.fourth,
-                pages: l.fifth,
+                filled: l.fifth,
             };
-            return streams::with_run(s, v, run);
+            return streams::with_work(s, v, work);
         }
-        names::REST => return streams::with_run(s, v, Run::AtRest),
+        names::REST => return streams::with_work(s, v, Work::AtRest),
         _ => {}
     }
     next

@@ -4,8 +4,8 @@ use libc::STDOUT_FILENO;
 use session::Check;
 use session::Phase;
 use session::Session;
-use session::streams::Run;
 use session::streams::STREAM_PLACES;
+use session::streams::Work;
 
 // What half a word can hold.
 const HALF: u64 = 0x1_0000_0000;
@@ -73,19 +73,19 @@ fn number_of(p: Phase) -> u64 {
 }
 
 // What a stream is doing.
-fn run(r: Run) {
+fn run(r: Work) {
     match r {
-        Run::AtRest => text(b" -"),
-        Run::Interrupted {
+        Work::AtRest => text(b" -"),
+        Work::Interrupted {
             next,
             last,
             errors,
-            pages,
+            filled,
         } => {
             number(b" ", next);
             number(b"/", last);
             number(b"/", errors);
-            number(b"/", pages);
+            number(b"/", filled);
         }
     }
 }
@@ -96,7 +96,7 @@ fn streams(s: Session) {
     let mut i: usize = 0;
     while i < STREAM_PLACES {
         let stream = s.streams[i];
-        let r = stream.run;
+        let r = stream.work;
         run(r);
         i += 1;
     }

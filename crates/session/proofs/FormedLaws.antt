@@ -1,26 +1,32 @@
--- What `formed` says, case by case and both ways: the tests of a list all hold exactly where their conjunction does.
+-- What `formed` says, case by case and both ways: none of the malformed cases holds exactly where each of them fails.
 use mathlib.Core.Path.{_≡_, refl, sym, ap, _∙_}
 use mathlib.Core.Logic.{⊎-elim}
-use mathlib.Core.Bool.{Bool, true, false, not, _&&_, _||_, true≢false, false≢true}
+use mathlib.Core.Bool.{Bool, true, false, not, _&&_, _||_, or-false, or-assoc, true≢false, false≢true}
 use mathlib.Core.List.{List, [], _∷_}
-use Prim.Native.Nat.{ℕ, zero, suc, _+_, _*_, _/_, _%_, _≤_, _<_}
+use Prim.Native.Nat.{ℕ, zero, suc, _+_, _*_, _/_, _%_, _^_, _≤_, _<_}
 use native.Mathlib.Omega.{arith}
 use native.Mathlib.Nat.{eq-or-lt-of-le, le-of-suc-le-suc}
-use lib.Dec.{eqb, ltb, leb}
-use lib.ListN.{getD}
-use borrow.Author.Tests.{le-leb, leb-true, lt-ltb, ltb-true, eq-eqb, eqb-true, ne-eqb, eqb-false}
-use Rattle.words.specs.Record.{room}
-use Rattle.refusals.proofs.Laws.{and-left, and-right, not-true, not-false}
+use lib.Dec.{eqb, leb}
+use borrow.Author.Tests.{le-leb, leb-true, lt-ltb, ltb-true, le-ltb, ltb-false, eq-eqb, eqb-true, ne-eqb, eqb-false}
+use Rattle.refusals.proofs.Laws.{either, and-left, and-right, not-true, not-false}
 use Rattle.table.specs.Table.{legal, mostPages}
-use Rattle.session.specs.Session.{among, moving, resting, streamPlaces}
-use Rattle.session.specs.Formed.{lastEpoch, lastEntry, fewestCreated, mostCreated, within, every, everyFrom, numberTests, formedNumbers, runFormed, streamIs, allBelow, busy, formed}
+use Rattle.session.specs.Session.{among, moving, streamPlaces, workAt}
+use Rattle.session.specs.Formed.{lastEpoch, lastEntry, fewestCreated, mostCreated, within, epochIn, workResting, workInRange, usable, someBelow, interrupted, outOfRange, outOfPlace, busy, someOf, malformedCases, formed}
 use Rattle.session.specs.declared.Phase.{Phase}
 use Rattle.session.specs.declared.Phase.the-variants.{Idle, Live, Blackout, Done}
 use Rattle.session.specs.declared.Session.{Session}
-use Rattle.session.specs.declared.streams.Run.the-variants.{Interrupted}
-use Rattle.session.specs.declared.streams.Asked.the-variants as asked
+use Rattle.session.specs.declared.streams.Work.{Work}
+use Rattle.session.specs.declared.streams.Work.the-variants.{AtRest, Interrupted}
 
--- ---- lists of tests
+-- ---- tests joined by `&&`, from the left
+
+abbrev everyFrom : Bool → List Bool → Bool
+everyFrom b [] = b
+everyFrom b (c ∷ l) = everyFrom (b && c) l
+
+abbrev pub every : List Bool → Bool
+every [] = true
+every (b ∷ l) = everyFrom b l
 
 abbrev pub Hold : List Bool → Type 0
 Hold [] = Unit
@@ -44,15 +50,67 @@ pub hold-every : (l : List Bool) → Hold l → every l ≡ true
 hold-every [] h = refl
 hold-every (b ∷ l) h = hold-from b l (h .0) (h .1)
 
-module _ (f : ℕ → Bool) where
-  pub below-all : (n : ℕ) → allBelow f n ≡ true → (k : ℕ) → k < n → f k ≡ true
-  below-all zero e k h = absurd (omega arith)
-  below-all (suc n) e k h =
-      ⊎-elim (λ q. rw q (and-right (allBelow f n) (f n) e)) (λ l. below-all n (and-left (allBelow f n) (f n) e) k l) (eq-or-lt-of-le (le-of-suc-le-suc h))
+-- ---- cases of which none holds
 
-  pub all-below : (n : ℕ) → ((k : ℕ) → k < n → f k ≡ true) → allBelow f n ≡ true
-  all-below zero h = refl
-  all-below (suc n) h = rw (all-below n (λ k l. h k (omega arith)), h n (omega arith))
+neither : (a b : Bool) → (a || b) ≡ false → (a ≡ false) × (b ≡ false)
+neither true b e = absurd (true≢false e)
+neither false b e = (refl, e)
+
+abbrev Fail : List Bool → Type 0
+Fail [] = Unit
+Fail (b ∷ l) = (b ≡ false) × Fail l
+
+none-fail : (l : List Bool) → someOf l ≡ false → Fail l
+none-fail [] e = tt
+none-fail (b ∷ l) e = let r = neither b (someOf l) e in (r .0, none-fail l (r .1))
+
+-- the code joins them from the left
+abbrev someFrom : Bool → List Bool → Bool
+someFrom b [] = b
+someFrom b (c ∷ l) = someFrom (b || c) l
+
+from-some : (b : Bool) (l : List Bool) → someFrom b l ≡ (b || someOf l)
+from-some b [] = sym (or-false b)
+from-some b (c ∷ l) = from-some (b || c) l ∙ or-assoc b c (someOf l)
+
+pub formed-from : (s : Session) (len : ℕ) → not (someFrom false (malformedCases s len)) ≡ formed s len
+unfolding formed
+formed-from s len = ap not (from-some false (malformedCases s len))
+
+module _ (f : ℕ → Bool) where
+  none-below : (n : ℕ) → someBelow f n ≡ false → (k : ℕ) → k < n → f k ≡ false
+  none-below zero e k h = absurd (omega arith)
+  none-below (suc n) e k h =
+      let r = neither (someBelow f n) (f n) e in
+      ⊎-elim (λ q. rw q (r .1)) (λ l. none-below n (r .0) k l) (eq-or-lt-of-le (le-of-suc-le-suc h))
+
+  below-none : (n : ℕ) → ((k : ℕ) → k < n → f k ≡ false) → someBelow f n ≡ false
+  below-none zero h = refl
+  below-none (suc n) h = rw (below-none n (λ k l. h k (omega arith)), h n (omega arith))
+
+-- two tests that do not hold at once
+other : (a b : Bool) → (a && b) ≡ false → a ≡ true → b ≡ false
+other true b e x = e
+other false b e x = absurd (false≢true x)
+
+not-both : (a b : Bool) → (a ≡ true → b ≡ false) → (a && b) ≡ false
+not-both true b f = f refl
+not-both false b f = refl
+
+not-so : (b : Bool) → (b ≡ true → ⊥) → b ≡ false
+not-so true f = absurd (f refl)
+not-so false f = refl
+
+-- ---- streams at rest
+
+pub busy-means : (s : Session) → busy s ≡ false → (i : ℕ) → i < streamPlaces → workResting (workAt s i) ≡ true
+unfolding busy
+busy-means s e i h =
+    not-false (workResting (workAt s i)) (none-below (interrupted s) streamPlaces e i h)
+
+pub means-busy : (s : Session) → ((i : ℕ) → i < streamPlaces → workResting (workAt s i) ≡ true) → busy s ≡ false
+unfolding busy
+means-busy s f = below-none (interrupted s) streamPlaces (λ i h. ap not (f i h))
 
 -- ---- what a well-formed session is
 
@@ -60,12 +118,30 @@ pub record Within (lo hi n : ℕ) : Type 0 where
   pub low : lo ≤ n
   pub high : n ≤ hi
 
-within-means : (lo hi n : ℕ) → within lo hi n ≡ true → Within lo hi n
+within-means : (lo hi n : ℕ) → not (within lo hi n) ≡ false → Within lo hi n
 within-means lo hi n e =
-    record { low = leb-true _ _ (and-left (leb lo n) (leb n hi) e); high = leb-true _ _ (and-right (leb lo n) (leb n hi) e) }
+    let h = every-hold (leb lo n ∷ leb n hi ∷ []) (not-false (within lo hi n) e) in
+    record { low = leb-true _ _ (h .0); high = leb-true _ _ (h .1 .0) }
 
 means-within : (lo hi n : ℕ) → Within lo hi n → within lo hi n ≡ true
 means-within lo hi n w = rw (le-leb _ _ (w .low), le-leb _ _ (w .high))
+
+-- a stream that is interrupted: a usable one of N, in Live or Blackout, with next ≤ last ≤ 511 and both counts ≤ next
+pub record Interrupts (moves : Bool) (created i next last errors filled : ℕ) : Type 0 where
+  pub moving : moves ≡ true
+  pub usable : i + 1 < created
+  pub ordered : next ≤ last
+  pub short : last ≤ lastEntry
+  pub few-errors : errors ≤ next
+  pub few-filled : filled ≤ next
+
+abbrev pub WorkFormed : Bool → ℕ → ℕ → Work → Type 0
+WorkFormed moves created i AtRest = Unit
+WorkFormed moves created i (Interrupted next last errors filled) = Interrupts moves created i next last errors filled
+
+-- of every stream of a session
+abbrev pub Streaming : Session → Type 0
+Streaming s = (i : ℕ) → i < streamPlaces → WorkFormed (among moving (s .phase)) (s .created) i (workAt s i)
 
 pub record Formed (s : Session) (len : ℕ) : Type 0 where
   -- the table: not odd, not 0, not above 8,192, and the session's
@@ -84,7 +160,7 @@ pub record Formed (s : Session) (len : ℕ) : Type 0 where
   pub complete : s .check .complete ≡ true → s .check .place ≡ s .pages
   pub apart : s .check .complete ≡ true → s .check .failed ≡ false
   -- the streams
-  pub streams : (i : ℕ) → i < streamPlaces → streamIs asked.Formed s i ≡ true
+  pub streams : Streaming s
 
 pub idle-is : (p : Phase) → among (Idle ∷ []) p ≡ true → p ≡ Idle
 idle-is Idle e = refl
@@ -92,146 +168,100 @@ idle-is Live e = absurd (false≢true e)
 idle-is Blackout e = absurd (false≢true e)
 idle-is Done e = absurd (false≢true e)
 
-or-right : (a b : Bool) → a ≡ false → (a || b) ≡ true → b ≡ true
-or-right true b x e = absurd (true≢false x)
-or-right false b x e = e
-
-or-left : (a b : Bool) → a ≡ true → (a || b) ≡ true
-or-left true b x = refl
-or-left false b x = absurd (false≢true x)
-
-or-other : (a b : Bool) → (a ≡ false → b ≡ true) → (a || b) ≡ true
-or-other true b f = refl
-or-other false b f = f refl
-
 pub formed-means : (s : Session) (len : ℕ) → formed s len ≡ true → Formed s len
-unfolding formed legal numberTests
+unfolding formed legal
 formed-means s len e =
-    let a₁ = eqb (len % 2) 0 in
-    let a₂ = not (eqb len 0) in
-    let a₃ = leb len (2 * mostPages) in
-    let ours = eqb (len / 2) (s .pages) in
-    let numbers = formedNumbers s in
-    let streams = allBelow (streamIs asked.Formed s) streamPlaces in
-    let e₃ = and-left ((a₁ && a₂ && a₃) && ours && numbers) streams e in
-    let e₂ = and-left ((a₁ && a₂ && a₃) && ours) numbers e₃ in
-    let e₁ = and-left (a₁ && a₂ && a₃) ours e₂ in
-    let h = every-hold (numberTests s) (and-right ((a₁ && a₂ && a₃) && ours) numbers e₃) in
-    let idle = among (Idle ∷ []) (s .phase) in
+    let h = none-fail (malformedCases s len) (not-true (someOf (malformedCases s len)) e) in
+    let length = every-hold (eqb (len % 2) 0 ∷ not (eqb len 0) ∷ leb len (2 * mostPages) ∷ []) (not-false (legal len) (h .0)) in
+    let ranges = h .1 .1 in
+    let epoch = not-false (epochIn (s .phase) (s .epoch)) (ranges .1 .1 .0) in
+    let runs = ranges .1 .1 .1 .1 .0 in
+    let check = ranges .1 .1 .1 .1 .1 in
+    let streams = check .1 .1 .1 in
     record {
-      even = eqb-true _ _ (and-left a₁ a₂ (and-left (a₁ && a₂) a₃ e₁));
-      some = eqb-false _ _ (not-true (eqb len 0) (and-right a₁ a₂ (and-left (a₁ && a₂) a₃ e₁)));
-      most = leb-true _ _ (and-right (a₁ && a₂) a₃ e₁);
-      ours = eqb-true _ _ (and-right (a₁ && a₂ && a₃) ours e₂);
-      pages = within-means _ _ _ (h .0);
-      tlb = within-means _ _ _ (h .1 .0);
-      idle = λ q. eqb-true _ _ (or-right (not idle) (eqb (s .epoch) 0) (ap (λ (p : Phase). not (among (Idle ∷ []) p)) q) (h .1 .1 .0));
-      begun = λ n. within-means _ _ _ (or-right idle (within 1 lastEpoch (s .epoch)) (not-so idle (λ y. n (idle-is (s .phase) y))) (h .1 .1 .1 .0));
-      created = within-means _ _ _ (h .1 .1 .1 .1 .0);
-      place = leb-true _ _ (h .1 .1 .1 .1 .1 .0);
-      complete = λ q. eqb-true _ _ (or-right (not (s .check .complete)) (eqb (s .check .place) (s .pages)) (ap not q) (h .1 .1 .1 .1 .1 .1 .0));
-      apart = λ q. not-both (s .check .complete) (s .check .failed) q (not-true (s .check .complete && s .check .failed) (h .1 .1 .1 .1 .1 .1 .1 .0));
-      streams = below-all (streamIs asked.Formed s) streamPlaces (and-right ((a₁ && a₂ && a₃) && ours && numbers) streams e);
+      even = eqb-true _ _ (length .0);
+      some = eqb-false _ _ (not-true (eqb len 0) (length .1 .0));
+      most = leb-true _ _ (length .1 .1 .0);
+      ours = eqb-true _ _ (not-false (eqb (len / 2) (s .pages)) (h .1 .0));
+      pages = within-means _ _ _ (ranges .0);
+      tlb = within-means _ _ _ (ranges .1 .0);
+      idle = λ q. eqb-true _ _ (ap (λ (p : Phase). epochIn p (s .epoch)) (sym q) ∙ epoch);
+      begun = λ n. within-means _ _ _ (ap not (rw (not-so (among (Idle ∷ []) (s .phase)) (λ y. n (idle-is (s .phase) y))) at epoch));
+      created = within-means _ _ _ (ranges .1 .1 .1 .0);
+      place = ltb-false _ _ (check .0);
+      complete = λ q. eqb-true _ _ (not-false (eqb (s .check .place) (s .pages)) (other (s .check .complete) (not (eqb (s .check .place) (s .pages))) (check .1 .0) q));
+      apart = other (s .check .complete) (s .check .failed) (check .1 .1 .0);
+      streams = λ i l.
+          run i (workAt s i) (λ q. busy-means s q i l) (none-below (outOfRange s) streamPlaces runs i l)
+          (none-below (outOfPlace s) streamPlaces (streams .0) i l) (streams .1 .0);
     }
   where
-    not-so : (b : Bool) → (b ≡ true → ⊥) → b ≡ false
-    not-so true f = absurd (f refl)
-    not-so false f = refl
-
-    not-both : (a b : Bool) → a ≡ true → (a && b) ≡ false → b ≡ false
-    not-both true b x e = e
-    not-both false b x e = absurd (false≢true x)
+    run :
+        (i : ℕ) (r : Work) →
+        (busy s ≡ false → workResting r ≡ true) →
+        not (workInRange r) ≡ false →
+        (not (workResting r) && not (usable s i)) ≡ false →
+        (busy s && not (among moving (s .phase))) ≡ false →
+        WorkFormed (among moving (s .phase)) (s .created) i r
+    run i AtRest rest range able moves = tt
+    run i (Interrupted next last errors filled) rest range able moves =
+        let h = every-hold (leb next last ∷ leb last lastEntry ∷ leb errors next ∷ leb filled next ∷ []) (not-false (workInRange (Interrupted next last errors filled)) range) in
+        let some = not-false (busy s) (not-so (not (busy s)) (λ q. false≢true (rest (not-true (busy s) q)))) in
+        record {
+          moving = not-false (among moving (s .phase)) (other (busy s) (not (among moving (s .phase))) moves some);
+          usable = ltb-true _ _ (not-false (usable s i) able);
+          ordered = leb-true _ _ (h .0);
+          short = leb-true _ _ (h .1 .0);
+          few-errors = leb-true _ _ (h .1 .1 .0);
+          few-filled = leb-true _ _ (h .1 .1 .1 .0);
+        }
 
 -- a record holds both epochs
-pub tlb-fits : (s : Session) (len : ℕ) → formed s len ≡ true → s .tlb < room
+pub tlb-fits : (s : Session) (len : ℕ) → formed s len ≡ true → s .tlb < 2 ^ 16
 tlb-fits s len f = omega (arith, formed-means s len f .tlb .high)
 
-pub epoch-fits : (s : Session) (len : ℕ) → formed s len ≡ true → among moving (s .phase) ≡ true → s .epoch < room
+pub epoch-fits : (s : Session) (len : ℕ) → formed s len ≡ true → among moving (s .phase) ≡ true → s .epoch < 2 ^ 16
 epoch-fits s len f c =
     omega (arith, formed-means s len f .begun (λ e. false≢true (sym (ap (among moving) e) ∙ c)) .high)
 
 pub means-formed : (s : Session) (len : ℕ) → Formed s len → formed s len ≡ true
-unfolding formed legal numberTests
+unfolding formed legal
 means-formed s len f =
-    let idle = among (Idle ∷ []) (s .phase) in
-    let numbers : formedNumbers s ≡ true
-    = hold-every (numberTests s) (
+    rw (
+      eq-eqb _ _ (f .even),
+      ne-eqb _ _ (f .some),
+      le-leb _ _ (f .most),
+      eq-eqb _ _ (f .ours),
       means-within _ _ _ (f .pages),
-      (
-        means-within _ _ _ (f .tlb),
-        (
-          or-other (not idle) (eqb (s .epoch) 0) (λ q. eq-eqb _ _ (f .idle (idle-is (s .phase) (not-false idle q)))),
-          (
-            or-other idle (within 1 lastEpoch (s .epoch)) (λ q. means-within _ _ _ (f .begun (λ p. true≢false (sym (ap (among (Idle ∷ [])) p) ∙ q)))),
-            (
-              means-within _ _ _ (f .created),
-              (
-                le-leb _ _ (f .place),
-                (
-                  or-other (not (s .check .complete)) (eqb (s .check .place) (s .pages)) (λ q. eq-eqb _ _ (f .complete (not-false (s .check .complete) q))),
-                  (neither (s .check .complete) (s .check .failed) (f .apart), tt),
-                ),
-              ),
-            ),
-          ),
-        ),
-      ),
+      means-within _ _ _ (f .tlb),
+      epoch,
+      means-within _ _ _ (f .created),
+      below-none (outOfRange s) streamPlaces (λ i h. in-range i (workAt s i) (f .streams i h)),
+      le-ltb _ _ (f .place),
+      not-both (s .check .complete) (not (eqb (s .check .place) (s .pages))) (λ q. ap not (eq-eqb _ _ (f .complete q))),
+      not-both (s .check .complete) (s .check .failed) (f .apart),
+      below-none (outOfPlace s) streamPlaces (λ i h. able i (workAt s i) (f .streams i h)),
+      moves (among moving (s .phase)) (f .streams),
     )
-    in
-    rw (eq-eqb _ _ (f .even), ne-eqb _ _ (f .some), le-leb _ _ (f .most), eq-eqb _ _ (f .ours), numbers, all-below (streamIs asked.Formed s) streamPlaces (f .streams))
   where
-    neither : (a b : Bool) → (a ≡ true → b ≡ false) → not (a && b) ≡ true
-    neither true b g = rw (g refl)
-    neither false b g = refl
+    epoch : epochIn (s .phase) (s .epoch) ≡ true
+    epoch =
+        either (λ (b : Bool). b ≡ true) (among (Idle ∷ []) (s .phase))
+        (λ q. eq-eqb _ _ (f .idle (idle-is (s .phase) q)))
+        (λ q. means-within _ _ _ (f .begun (λ p. true≢false (sym (ap (among (Idle ∷ [])) p) ∙ q))))
 
--- ---- streams
+    in-range : (i : ℕ) (r : Work) → WorkFormed (among moving (s .phase)) (s .created) i r → not (workInRange r) ≡ false
+    in-range i AtRest w = refl
+    in-range i (Interrupted next last errors filled) w = rw (le-leb _ _ (w .ordered), le-leb _ _ (w .short), le-leb _ _ (w .few-errors), le-leb _ _ (w .few-filled))
 
--- a stream that is interrupted: a usable one, in Live or Blackout, with next ≤ last ≤ 511 and both counts ≤ next
-pub record Interrupts (s : Session) (i next last errors pages : ℕ) : Type 0 where
-  pub moving : among moving (s .phase) ≡ true
-  pub usable : i + 1 < s .created
-  pub ordered : next ≤ last
-  pub short : last ≤ lastEntry
-  pub few-errors : errors ≤ next
-  pub few-pages : pages ≤ next
+    able : (i : ℕ) (r : Work) → WorkFormed (among moving (s .phase)) (s .created) i r → (not (workResting r) && not (usable s i)) ≡ false
+    able i AtRest w = refl
+    able i (Interrupted next last errors filled) w = ap not (lt-ltb _ _ (w .usable))
 
-module _ (s : Session) (i next last errors pages : ℕ) (run : getD (s .streams) i resting .run ≡ Interrupted next last errors pages) where
-  abbrev a₁ : Bool
-  a₁ = among moving (s .phase)
+    rests : (i : ℕ) (r : Work) → WorkFormed false (s .created) i r → workResting r ≡ true
+    rests i AtRest w = refl
+    rests i (Interrupted next last errors filled) w = absurd (false≢true (w .moving))
 
-  abbrev a₂ : Bool
-  a₂ = ltb (i + 1) (s .created)
-
-  pub stream-means : streamIs asked.Formed s i ≡ true → Interrupts s i next last errors pages
-  stream-means e =
-      let f : runFormed (a₁ && a₂) (Interrupted next last errors pages) ≡ true = ap (runFormed (a₁ && a₂)) (sym run) ∙ e in
-      let b₁ = (a₁ && a₂) && leb next last in
-      let b₂ = b₁ && leb last lastEntry in
-      let b₃ = b₂ && leb errors next in
-      let e₃ = and-left b₃ (leb pages next) f in
-      let e₂ = and-left b₂ (leb errors next) e₃ in
-      let e₁ = and-left b₁ (leb last lastEntry) e₂ in
-      let e₀ = and-left (a₁ && a₂) (leb next last) e₁ in
-      record {
-        moving = and-left a₁ a₂ e₀;
-        usable = ltb-true _ _ (and-right a₁ a₂ e₀);
-        ordered = leb-true _ _ (and-right (a₁ && a₂) (leb next last) e₁);
-        short = leb-true _ _ (and-right b₁ (leb last lastEntry) e₂);
-        few-errors = leb-true _ _ (and-right b₂ (leb errors next) e₃);
-        few-pages = leb-true _ _ (and-right b₃ (leb pages next) f);
-      }
-
-  pub means-stream : Interrupts s i next last errors pages → streamIs asked.Formed s i ≡ true
-  means-stream w =
-      ap (runFormed (a₁ && a₂)) run
-      ∙ rw (w .moving, lt-ltb _ _ (w .usable), le-leb _ _ (w .ordered), le-leb _ _ (w .short), le-leb _ _ (w .few-errors), le-leb _ _ (w .few-pages)) refl
-
--- ---- streams at rest
-
-pub busy-means : (s : Session) → busy s ≡ false → (i : ℕ) → i < streamPlaces → streamIs asked.AtRest s i ≡ true
-unfolding busy
-busy-means s e = below-all (streamIs asked.AtRest s) streamPlaces (not-false (allBelow (streamIs asked.AtRest s) streamPlaces) e)
-
-pub means-busy : (s : Session) → ((i : ℕ) → i < streamPlaces → streamIs asked.AtRest s i ≡ true) → busy s ≡ false
-unfolding busy
-means-busy s h = rw (all-below (streamIs asked.AtRest s) streamPlaces h)
+    moves : (m : Bool) → ((i : ℕ) → i < streamPlaces → WorkFormed m (s .created) i (workAt s i)) → (busy s && not m) ≡ false
+    moves true w = not-both (busy s) false (λ q. refl)
+    moves false w = rw (means-busy s (λ i h. rests i (workAt s i) (w i h)))

@@ -1,16 +1,16 @@
 -- What callers know of the gate, and of a session that has passed it. They use these laws, and not the text of `formed`.
 use mathlib.Core.Path.{_≡_, refl, ap}
 use mathlib.Core.Bool.{Bool, true, false, cond, not}
-use mathlib.Core.List.{List, []}
+use mathlib.Core.List.{List, [], _∷_, _++_}
 use Prim.Native.Nat.{ℕ, _+_, _≤_, _<_}
 use native.Mathlib.Omega.{arith}
-use lib.Dec.{eqb}
-use Rattle.words.specs.Codes as codes
+use lib.Dec.{eqb, ltb}
+use borrow.Author.Tests.{ltb-true, eqb-true, ne-eqb}
 use Rattle.refusals.specs.Refusals.{Test, firstOf}
-use Rattle.refusals.proofs.Laws.{either, Passed, coded, passed, passed-code, Ends, once, ended, not-false}
+use Rattle.refusals.proofs.Laws.{and-left, and-right, not-false, Passed, coded, passed, passed-code, Ends, once, ended}
 use Rattle.table.specs.Table.{wordsAt}
 use Rattle.session.specs.Session.{among}
-use Rattle.session.specs.Formed.{formed, gateTests, gated}
+use Rattle.session.specs.Formed.{formed, gateTests, gated, behind}
 use Rattle.session.specs.Outcome.{Outcome, outcome, answered}
 use Rattle.session.specs.declared.Phase.{Phase}
 use Rattle.session.specs.declared.Session.{Session}
@@ -19,20 +19,36 @@ use Rattle.session.specs.declared.Answer.{Answer}
 pub below-next : (a b : ℕ) → a ≤ b → a ≤ b + 1
 below-next a b h = omega arith
 
--- the gate's code goes before a call's own tests
-pub gate-first : (s : Session) (len : ℕ) (phases : List Phase) (l : List Test) → gated s len phases l ≡ cond (eqb (gated s len phases []) 0) (firstOf l) (gated s len phases [])
-unfolding gated
-gate-first s len phases l = go (not (formed s len)) (not (among phases (s .phase)))
+-- what the first tests give goes before the others
+pub first-then : (l m : List Test) → coded l ≡ true → firstOf (l ++ m) ≡ behind (firstOf l) m
+first-then [] m k = refl
+first-then (t ∷ l) m k = go (t .holds) (first-then l m (and-right (ltb 0 (t .code)) (coded l) k))
   where
-    go : (a b : Bool) → cond a codes.malformed (cond b codes.opStateIncorrect (firstOf l)) ≡ cond (eqb (cond a codes.malformed (cond b codes.opStateIncorrect 0)) 0) (firstOf l) (cond a codes.malformed (cond b codes.opStateIncorrect 0))
-    go true b = refl
-    go false true = refl
-    go false false = refl
+    go : (b : Bool) → firstOf (l ++ m) ≡ behind (firstOf l) m → cond b (t .code) (firstOf (l ++ m)) ≡ behind (cond b (t .code) (firstOf l)) m
+    go true e = rw (ne-eqb (t .code) 0 (λ z. omega (arith, z, ltb-true 0 (t .code) (and-left (ltb 0 (t .code)) (coded l) k))))
+    go false e = e
+
+-- the gate's code goes before a call's own tests
+pub gate-first : (s : Session) (len : ℕ) (phases : List Phase) (l : List Test) → gated s len phases l ≡ behind (gated s len phases []) l
+unfolding gated
+gate-first s len phases l = first-then (gateTests s len phases []) l refl
+
+-- a call that is told its gate's code, and with 0 what its own tests give
+pub behind-gate : (s : Session) (len : ℕ) (phases : List Phase) (l m : List Test) (gate : ℕ) → gate ≡ gated s len phases [] → (gate ≡ 0 → firstOf l ≡ firstOf m) → behind gate l ≡ gated s len phases m
+behind-gate s len phases l m gate e same = rw (gate-first s len phases m, ← e) (go (eqb gate 0) refl)
+  where
+    go : (b : Bool) → eqb gate 0 ≡ b → cond b (firstOf l) gate ≡ cond b (firstOf m) gate
+    go true q = same (eqb-true gate 0 q)
+    go false q = refl
 
 -- what holds of the outcome that a call makes and of the one that gives back what came holds of its answer
 pub answered-either : (P : Outcome → Type 0) (code : ℕ) (s : Session) (t : List ℕ) (s' : Session) (t' : List ℕ) → (eqb code 0 ≡ true → P (outcome code s' t')) → (eqb code 0 ≡ false → P (outcome code s t)) → P (answered code s t s' t')
 unfolding answered
-answered-either P code s t s' t' made kept = either P (eqb code 0) made kept
+answered-either P code s t s' t' made kept = go (eqb code 0) made kept
+  where
+    go : (b : Bool) → (b ≡ true → P (outcome code s' t')) → (b ≡ false → P (outcome code s t)) → P (record { answer = record { code = code; session = cond b s' s }; table = cond b t' t })
+    go true made kept = made refl
+    go false made kept = kept refl
 
 -- whoever has the answer knows the table, and need not make the answer again
 module _ (code : ℕ) (s : Session) (t : List ℕ) (s' : Session) (t' : List ℕ) (a : Answer) (e : a ≡ answered code s t s' t' .answer) where

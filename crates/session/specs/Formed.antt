@@ -1,20 +1,17 @@
--- When a session is well-formed, case by case as document 01 lists them, and the gate that every call but New passes first.
-use mathlib.Core.Bool.{Bool, true, false, not, _&&_, _||_}
+-- When a session is malformed, case by case as document 01 lists them, and the gate that every call but New passes first.
+use mathlib.Core.Bool.{Bool, true, false, cond, not, _&&_, _||_}
 use mathlib.Core.List.{List, [], _∷_}
 use Prim.Native.Nat.{ℕ, zero, suc, _+_, _/_}
 use lib.Dec.{eqb, ltb, leb}
-use lib.ListN.{getD}
 use Rattle.words.specs.Codes as codes
 use Rattle.refusals.specs.Refusals.{Test, _gives_, firstOf}
 use Rattle.table.specs.Table.{legal, mostPages}
-use Rattle.session.specs.Session.{among, moving, resting, streamPlaces}
+use Rattle.session.specs.Session.{among, moving, streamPlaces, workAt}
 use Rattle.session.specs.declared.Phase.{Phase}
 use Rattle.session.specs.declared.Phase.the-variants.{Idle}
 use Rattle.session.specs.declared.Session.{Session}
-use Rattle.session.specs.declared.streams.Run.{Run}
-use Rattle.session.specs.declared.streams.Run.the-variants.{AtRest, Interrupted}
-use Rattle.session.specs.declared.streams.Asked.{Asked}
-use Rattle.session.specs.declared.streams.Asked.the-variants as asked
+use Rattle.session.specs.declared.streams.Work.{Work}
+use Rattle.session.specs.declared.streams.Work.the-variants.{AtRest, Interrupted}
 
 abbrev pub lastEpoch : ℕ
 lastEpoch = 65535
@@ -36,67 +33,75 @@ mostEntries = lastEntry + 1
 abbrev pub within : ℕ → ℕ → ℕ → Bool
 within lo hi n = leb lo n && leb n hi
 
--- every test holds, taken from the left
-abbrev pub everyFrom : Bool → List Bool → Bool
-everyFrom b [] = b
-everyFrom b (c ∷ l) = everyFrom (b && c) l
-
-abbrev pub every : List Bool → Bool
-every [] = true
-every (b ∷ l) = everyFrom b l
-
--- the ranges, the migration epoch being 0 in Idle and else 1 to 65,535; then the check: its place, where it is complete, and not complete and failed at once
-unfoldable pub numberTests : Session → List Bool
-numberTests s =
-    within 1 mostPages (s .pages)
-    ∷ within 1 lastEpoch (s .tlb)
-    ∷ (not (among (Idle ∷ []) (s .phase)) || eqb (s .epoch) 0)
-    ∷ (among (Idle ∷ []) (s .phase) || within 1 lastEpoch (s .epoch))
-    ∷ within fewestCreated mostCreated (s .created)
-    ∷ leb (s .check .place) (s .pages)
-    ∷ (not (s .check .complete) || eqb (s .check .place) (s .pages))
-    ∷ not (s .check .complete && s .check .failed)
-    ∷ []
-
-abbrev pub formedNumbers : Session → Bool
-formedNumbers s = every (numberTests s)
+-- 0 in Idle, else 1 to 65,535
+abbrev pub epochIn : Phase → ℕ → Bool
+epochIn phase epoch = cond (among (Idle ∷ []) phase) (eqb epoch 0) (within 1 lastEpoch epoch)
 
 -- ---- streams
 
--- next ≤ last ≤ 511, both counts ≤ next; and only one that may be so is interrupted
-abbrev pub runFormed : Bool → Run → Bool
-runFormed may AtRest = true
-runFormed may (Interrupted next last errors pages) = may && leb next last && leb last lastEntry && leb errors next && leb pages next
+abbrev pub workResting : Work → Bool
+workResting AtRest = true
+workResting (Interrupted next last errors filled) = false
 
-abbrev pub runResting : Run → Bool
-runResting AtRest = true
-runResting (Interrupted next last errors pages) = false
-
-abbrev pub runIs : Asked → Bool → Run → Bool
-runIs asked.Formed may r = runFormed may r
-runIs asked.AtRest may r = runResting r
+-- next ≤ last ≤ 511, both counts ≤ next
+abbrev pub workInRange : Work → Bool
+workInRange AtRest = true
+workInRange (Interrupted next last errors filled) = leb next last && leb last lastEntry && leb errors next && leb filled next
 
 -- index below N−1 is usable
 abbrev pub usable : Session → ℕ → Bool
 usable s i = ltb (i + 1) (s .created)
 
--- only a usable stream is interrupted, and neither in Idle nor in Done
-abbrev pub streamIs : Asked → Session → ℕ → Bool
-streamIs k s i = runIs k (among moving (s .phase) && usable s i) (getD (s .streams) i resting .run)
+-- f holds at some number below n
+abbrev pub someBelow : (ℕ → Bool) → ℕ → Bool
+someBelow f zero = false
+someBelow f (suc n) = someBelow f n || f n
 
--- f holds at every number below n
-abbrev pub allBelow : (ℕ → Bool) → ℕ → Bool
-allBelow f zero = true
-allBelow f (suc n) = allBelow f n && f n
+abbrev pub someStream : (ℕ → Bool) → Bool
+someStream f = someBelow f streamPlaces
+
+abbrev pub interrupted : Session → ℕ → Bool
+interrupted s i = not (workResting (workAt s i))
+
+abbrev pub outOfRange : Session → ℕ → Bool
+outOfRange s i = not (workInRange (workAt s i))
+
+-- interrupted and unusable
+abbrev pub outOfPlace : Session → ℕ → Bool
+outOfPlace s i = interrupted s i && not (usable s i)
 
 -- some stream is interrupted
 unfoldable pub busy : Session → Bool
-busy s = not (allBelow (streamIs asked.AtRest s) streamPlaces)
+busy s = someStream (interrupted s)
 
 -- ---- the gate
 
+abbrev pub someOf : List Bool → Bool
+someOf [] = false
+someOf (b ∷ l) = b || someOf l
+
+abbrev pub malformedCases : Session → ℕ → List Bool
+malformedCases s len =
+    -- table length odd, 0, above 8,192 or not the session's
+    not (legal len)
+    ∷ not (eqb (len / 2) (s .pages))
+    -- a field outside its range
+    ∷ not (within 1 mostPages (s .pages))
+    ∷ not (within 1 lastEpoch (s .tlb))
+    ∷ not (epochIn (s .phase) (s .epoch))
+    ∷ not (within fewestCreated mostCreated (s .created))
+    ∷ someStream (outOfRange s)
+    -- a check place above the page count, complete at another place than the count, complete and failed at once
+    ∷ ltb (s .pages) (s .check .place)
+    ∷ (s .check .complete && not (eqb (s .check .place) (s .pages)))
+    ∷ (s .check .complete && s .check .failed)
+    -- an interrupted stream that is unusable or in Idle or Done
+    ∷ someStream (outOfPlace s)
+    ∷ (busy s && not (among moving (s .phase)))
+    ∷ []
+
 unfoldable pub formed : Session → ℕ → Bool
-formed s len = legal len && eqb (len / 2) (s .pages) && formedNumbers s && allBelow (streamIs asked.Formed s) streamPlaces
+formed s len = not (someOf (malformedCases s len))
 
 -- a call that comes in some phases and then has tests of its own: 40, 41, and these
 abbrev pub gateTests : Session → ℕ → List Phase → List Test → List Test
@@ -105,3 +110,7 @@ gateTests s len phases tests =
 
 unfoldable pub gated : Session → ℕ → List Phase → List Test → ℕ
 gated s len phases tests = firstOf (gateTests s len phases tests)
+
+-- a code that goes before some tests
+abbrev pub behind : ℕ → List Test → ℕ
+behind code tests = cond (eqb code 0) (firstOf tests) code

@@ -3,8 +3,8 @@ use mathlib.Core.Bool.{cond}
 use mathlib.Core.List.{List}
 use Prim.Native.Nat.{ℕ}
 use lib.Dec.{eqb}
-use Rattle.page.specs.Sweeps.{sweptWords}
-use Rattle.page.specs.declared.Page.{Page}
+use Rattle.page.specs.Page.{onWords}
+use Rattle.page.specs.Page.{Page}
 use Rattle.table.specs.Table.{pageCount, sweepOf}
 use Rattle.session.specs.declared.Session.{Session}
 use Rattle.session.specs.declared.Answer.{Answer}
@@ -16,10 +16,14 @@ pub record Outcome : Type 0 where
 abbrev pub outcome : ℕ → Session → List ℕ → Outcome
 outcome code s t = record { answer = record { code = code; session = s }; table = t }
 
--- with code 0 the session and the table that the call makes; with any other, those that came
+-- with code 0 the session that the call makes; with any other, the one that came
+abbrev pub answerFor : ℕ → Session → Session → Answer
+answerFor code s s' = record { code = code; session = cond (eqb code 0) s' s }
+
+-- and so the table
 unfoldable pub answered : ℕ → Session → List ℕ → Session → List ℕ → Outcome
-answered code s t s' t' = cond (eqb code 0) (outcome code s' t') (outcome code s t)
+answered code s t s' t' = record { answer = answerFor code s s'; table = cond (eqb code 0) t' t }
 
 -- a call that moves every page
 abbrev pub answeredBy : (Page → Page) → ℕ → Session → Session → List ℕ → Outcome
-answeredBy f code s s' t = answered code s t s' (sweepOf (sweptWords f) (pageCount t) t)
+answeredBy f code s s' t = answered code s t s' (sweepOf (onWords f) t)

@@ -12,8 +12,8 @@ use Rattle.session.specs.declared.Comes.{Comes}
 use Rattle.session.specs.declared.When.{When}
 use Rattle.session.specs.declared.When.the-variants as when
 use Rattle.session.specs.declared.streams.Stream.{Stream}
-use Rattle.session.specs.declared.streams.Run.{Run}
-use Rattle.session.specs.declared.streams.Run.the-variants.{AtRest}
+use Rattle.session.specs.declared.streams.Work.{Work}
+use Rattle.session.specs.declared.streams.Work.the-variants.{AtRest}
 
 -- ---- phases
 
@@ -52,7 +52,7 @@ abbrev pub unchecked : Check
 unchecked = record { place = 0; complete = false; failed = false }
 
 abbrev pub resting : Stream
-resting = record { run = AtRest }
+resting = record { work = AtRest }
 
 -- the session has eight places for streams, whatever N is
 abbrev pub streamPlaces : ℕ
@@ -88,12 +88,15 @@ abbrev pub withCheck : Session → Check → Session
 withCheck s check =
     record { phase = s .phase; pages = s .pages; tlb = s .tlb; epoch = s .epoch; created = s .created; check = check; streams = s .streams }
 
--- what a stream is doing; at rest where the session has no place for it
-unfoldable pub runOf : Session → ℕ → Run
-runOf s i = cond (ltb i streamPlaces) (getD (s .streams) i resting .run) AtRest
+abbrev pub workAt : Session → ℕ → Work
+workAt s i = getD (s .streams) i resting .work
 
-unfoldable pub withRun : Session → ℕ → Run → Session
-withRun s i run =
+-- what a stream is doing; at rest where the session has no place for it
+unfoldable pub workOf : Session → ℕ → Work
+workOf s i = cond (ltb i streamPlaces) (workAt s i) AtRest
+
+unfoldable pub withWork : Session → ℕ → Work → Session
+withWork s i work =
     cond (ltb i streamPlaces)
-    (record { phase = s .phase; pages = s .pages; tlb = s .tlb; epoch = s .epoch; created = s .created; check = s .check; streams = set (s .streams) i (record { run = run }) })
+    (record { phase = s .phase; pages = s .pages; tlb = s .tlb; epoch = s .epoch; created = s .created; check = s .check; streams = set (s .streams) i (record { work = work }) })
     s

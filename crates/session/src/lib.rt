@@ -4,11 +4,10 @@ ghost use mathlib.Core.List.{[]};
 ghost use Rattle.session.specs.Session.{among, phasesOf, comesIn, unchecked, withPhase, withEpoch, withTlb, withCheck, begun, newSession};
 ghost use Rattle.page.specs.Sweeps.{sweptBy};
 ghost use Rattle.session.specs.Outcome.{answeredBy};
-ghost use Rattle.session.specs.Formed.{formedNumbers, formed, gated, busy};
+ghost use Rattle.session.specs.Formed.{epochIn, formed, gated, busy};
 
 pub mod streams;
 
-use crate::streams::Asked;
 use crate::streams::STREAM_PLACES;
 use crate::streams::Stream;
 use page::sweeps::Sweep;
@@ -98,34 +97,44 @@ pub fn comes_in(p: Phase) -> Comes
     }
 }
 
-// Every number is in its range, and the check's progress makes sense.
-fn has_formed_numbers(s: Session) -> bool
-    ensures { λ r. ⌜ r ≡ formedNumbers s ⌝ }
+// The migration epoch is 0 in Idle, else 1 to 65,535.
+fn is_epoch_in(p: Phase, epoch: u64) -> bool
+    ensures { λ r. ⌜ r ≡ epochIn p epoch ⌝ }
 {
-    let p = s.phase;
     let comes = comes_in(p);
-    let place = s.check.place;
-    let complete = s.check.complete;
-    let failed = s.check.failed;
-    ((1 <= s.pages) & (s.pages <= table::MOST_PAGES))
-        & ((1 <= s.tlb) & (s.tlb <= LAST_EPOCH))
-        & (!comes.idle | (s.epoch == 0))
-        & (comes.idle | ((1 <= s.epoch) & (s.epoch <= LAST_EPOCH)))
-        & ((FEWEST_CREATED <= s.created) & (s.created <= MOST_CREATED))
-        & (place <= s.pages)
-        & (!complete | (place == s.pages))
-        & !(complete & failed)
+    if comes.idle {
+        return epoch == 0;
+    }
+    (1 <= epoch) & (epoch <= LAST_EPOCH)
 }
 
-// The table is of a legal length and the session's, and the session is well-formed.
+// The table is of a legal length and the session's, and the session is well-formed: none of document 01's cases, in its order.
 pub fn is_formed(s: Session, len: usize) -> bool
     ensures { λ r. ⌜ r ≡ formed s len ⌝ }
 {
+    let p = s.phase;
+    let pages = s.pages;
+    let tlb = s.tlb;
+    let created = s.created;
+    let place = s.check.place;
+    let complete = s.check.complete;
+    let failed = s.check.failed;
+    let epoch = is_epoch_in(p, s.epoch);
     let legal = table::is_legal(len);
-    let ours = len / 2 == s.pages;
-    let numbers = has_formed_numbers(s);
-    let streams = streams::all_are(s, Asked::Formed);
-    legal & ours & numbers & streams
+    let comes = comes_in(p);
+    let found = streams::find_interrupted(s);
+    !(!legal
+        | (len / 2 != pages)
+        | !((1 <= pages) & (pages <= table::MOST_PAGES))
+        | !((1 <= tlb) & (tlb <= LAST_EPOCH))
+        | !epoch
+        | !((FEWEST_CREATED <= created) & (created <= MOST_CREATED))
+        | found.outside
+        | (pages < place)
+        | (complete & (place != pages))
+        | (complete & failed)
+        | found.unusable
+        | (found.any & !comes.moving))
 }
 
 // The phases in which a call comes.
@@ -170,7 +179,8 @@ pub fn gate(s: Session, len: usize, w: When) -> u64
 pub fn is_busy(s: Session) -> bool
     ensures { λ r. ⌜ r ≡ busy s ⌝ }
 {
-    !streams::all_are(s, Asked::AtRest)
+    let found = streams::find_interrupted(s);
+    found.any
 }
 
 // ---- sessions made from others

@@ -1,23 +1,23 @@
 // The migration streams of a session: eight places, whatever the number of created ones.
 ghost use mathlib.Core.Path.{_≡_};
-ghost use Rattle.session.specs.Session.{atRest, streamPlaces, runOf, withRun};
-ghost use Rattle.session.specs.Formed.{usable, runFormed, runResting, runIs, streamIs, allBelow};
+ghost use Rattle.session.specs.Session.{atRest, workOf, withWork};
+ghost use Rattle.session.specs.Formed.{workResting, workInRange, usable, someStream, outOfRange, outOfPlace, busy};
 use crate::Session;
 
 // What a stream is doing. An interrupted export has taken the entries before `next`, of 0 to `last`.
-pub enum Run {
+pub enum Work {
     AtRest,
     Interrupted {
         next: u64,
         last: u64,
         errors: u64,
         // Data pages so far.
-        pages: u64,
+        filled: u64,
     },
 }
 
 pub struct Stream {
-    pub run: Run,
+    pub work: Work,
 }
 
 pub const STREAM_PLACES: usize = 8;
@@ -31,27 +31,27 @@ pub const MOST_ENTRIES: usize = 512;
 pub fn at_rest() -> [Stream; STREAM_PLACES]
     ensures { λ r. ⌜ r ≡ atRest ⌝ }
 {
-    [Stream { run: Run::AtRest }; STREAM_PLACES]
+    [Stream { work: Work::AtRest }; STREAM_PLACES]
 }
 
 // What a stream is doing; at rest where the session has no place for it.
-pub fn run_of(s: Session, at: u64) -> Run
-    ensures { λ r. ⌜ r ≡ runOf s at ⌝ }
+pub fn work_of(s: Session, at: u64) -> Work
+    ensures { λ r. ⌜ r ≡ workOf s at ⌝ }
 {
     if at < STREAM_PLACES as u64 {
         let stream = s.streams[at as usize];
-        return stream.run;
+        return stream.work;
     }
-    Run::AtRest
+    Work::AtRest
 }
 
-// The session with another run in one place.
-pub fn with_run(s: Session, at: u64, run: Run) -> Session
-    ensures { λ r. ⌜ r ≡ withRun s at run ⌝ }
+// The session with other work in one place.
+pub fn with_work(s: Session, at: u64, work: Work) -> Session
+    ensures { λ r. ⌜ r ≡ withWork s at work ⌝ }
 {
     if at < STREAM_PLACES as u64 {
         let mut next = s;
-        next.streams[at as usize] = Stream { run };
+        next.streams[at as usize] = Stream { work };
         return next;
     }
     s
@@ -67,65 +67,65 @@ pub fn is_usable(s: Session, at: u64) -> bool
     at + 1 < s.created
 }
 
-// `may`: a stream in this place may be interrupted.
-fn is_formed(run: Run, may: bool) -> bool
-    ensures { λ r. ⌜ r ≡ runFormed may run ⌝ }
+// Whether a stream is at rest.
+pub fn is_resting(work: Work) -> bool
+    ensures { λ r. ⌜ r ≡ workResting work ⌝ }
 {
-    match run {
-        Run::AtRest => true,
-        Run::Interrupted {
-            next,
-            last,
-            errors,
-            pages,
-        } => { may & (next <= last) & (last <= LAST_ENTRY) & (errors <= next) & (pages <= next) }
-    }
-}
-
-pub fn is_resting(run: Run) -> bool
-    ensures { λ r. ⌜ r ≡ runResting run ⌝ }
-{
-    match run {
-        Run::AtRest => true,
-        Run::Interrupted {
+    match work {
+        Work::AtRest => true,
+        Work::Interrupted {
             next: _,
             last: _,
             errors: _,
-            pages: _,
+            filled: _,
         } => false,
     }
 }
 
-// What can be asked of every stream.
-pub enum Asked {
-    Formed,
-    AtRest,
-}
-
-fn is_so(k: Asked, run: Run, may: bool) -> bool
-    ensures { λ r. ⌜ r ≡ runIs k may run ⌝ }
+// Whether what an interrupted stream holds is in its ranges.
+fn is_in_range(work: Work) -> bool
+    ensures { λ r. ⌜ r ≡ workInRange work ⌝ }
 {
-    match k {
-        Asked::Formed => is_formed(run, may),
-        Asked::AtRest => is_resting(run),
+    match work {
+        Work::AtRest => true,
+        Work::Interrupted {
+            next,
+            last,
+            errors,
+            filled,
+        } => { (next <= last) & (last <= LAST_ENTRY) & (errors <= next) & (filled <= next) }
     }
 }
 
-pub fn all_are(s: Session, k: Asked) -> bool
-    ensures { λ r. ⌜ r ≡ allBelow (streamIs k s) streamPlaces ⌝ }
+// What there is among the streams: an interrupted one, one outside its ranges, an interrupted one that is unusable.
+pub struct Found {
+    pub any: bool,
+    pub outside: bool,
+    pub unusable: bool,
+}
+
+// One look at every stream, for the session's well-formedness and for 43.
+pub fn find_interrupted(s: Session) -> Found
+    ensures { λ r. ⌜ r ≡ record { any = busy s; outside = someStream (outOfRange s); unusable = someStream (outOfPlace s) } ⌝ }
 {
-    let p = s.phase;
-    let comes = crate::comes_in(p);
-    let mut all = true;
+    let mut any = false;
+    let mut outside = false;
+    let mut unusable = false;
     let mut i: usize = 0;
     while i < STREAM_PLACES {
         let stream = s.streams[i];
-        let run = stream.run;
+        let work = stream.work;
+        let resting = is_resting(work);
+        let in_range = is_in_range(work);
         let usable = is_usable(s, i as u64);
-        let may = comes.moving & usable;
-        let this = is_so(k, run, may);
-        all = all & this;
+        any = any | !resting;
+        outside = outside | !in_range;
+        unusable = unusable | (!resting & !usable);
         i = i + 1;
     }
-    all
+    Found {
+        any,
+        outside,
+        unusable,
+    }
 }

@@ -1,3 +1,3 @@
 pub mod States
-pub mod Rows
 pub mod Lists
+pub mod Masks

@@ -1,34 +1,94 @@
--- What scans and exports make of each state, as document 01 lists the states.
-use mathlib.Core.Bool.{cond}
+-- What each state allows and where each call takes it, as document 01 lists the states, in its order: the one place where they are listed.
 use mathlib.Core.List.{List, [], _∷_}
-use Prim.Native.Nat.{ℕ}
 use Rattle.words.specs.Hints as hints
 use Rattle.words.specs.Operations as operations
-use Rattle.states.specs.States.{isIn, same}
-use Rattle.states.specs.Rows.{Change, _⇒_, taken, sent, pending}
-use Rattle.states.specs.declared.State.{State}
-use Rattle.states.specs.declared.State.the-variants.{Free, Blocked, Pending, PendingBlocked, Mapped, Exported, ExportedModified, ExportedBlocked, ExportedRemoved, PendingExported, PendingExportedModified, PendingExportedBlocked, Strange}
-use Rattle.states.specs.declared.lists.Listing.{Listing}
+use Rattle.states.specs.States.{State, Free, Blocked, Pending, PendingBlocked, Mapped, Exported, ExportedModified, ExportedBlocked, ExportedRemoved, PendingExported, PendingExportedModified, PendingExportedBlocked}
+use Rattle.states.specs.States.{Change, _⇒_, Numbered, _⟼_}
 
--- a state and its number in a list word
-pub record Numbered : Type 0 where
-  pub state : State
-  pub number : ℕ
+-- ---- guest and memory calls
 
-infixl 70 _⟼_
-abbrev pub _⟼_ : State → ℕ → Numbered
-s ⟼ n = record { state = s; number = n }
+-- write: in 4, 24, 25 the mark is stored
+abbrev pub writableStates : List State
+writableStates = Mapped ∷ Exported ∷ ExportedModified ∷ []
 
--- a state's number among some; 0 where it has none
-abbrev pub numberIn : List Numbered → State → ℕ
-numberIn [] s = 0
-numberIn (x ∷ l) s = cond (same s (x .state)) (x .number) (numberIn l s)
+-- in 1 and 26 it lands only if Cached is set
+abbrev pub landingStates : List State
+landingStates = Blocked ∷ ExportedBlocked ∷ []
+
+-- add: 0 becomes 2
+abbrev pub adds : List Change
+adds = Free ⇒ Pending ∷ []
+
+-- accept: 2 becomes 4; 29 and 30 become 25
+abbrev pub accepts : List Change
+accepts = Pending ⇒ Mapped ∷ PendingExported ⇒ ExportedModified ∷ PendingExportedModified ⇒ ExportedModified ∷ []
+
+-- block: 4→1, 2→3, 24 and 25→26, 29 and 30→31
+abbrev pub blocks : List Change
+blocks =
+    Mapped ⇒ Blocked
+    ∷ Pending ⇒ PendingBlocked
+    ∷ Exported ⇒ ExportedBlocked
+    ∷ ExportedModified ⇒ ExportedBlocked
+    ∷ PendingExported ⇒ PendingExportedBlocked
+    ∷ PendingExportedModified ⇒ PendingExportedBlocked
+    ∷ []
+
+-- unblock: 1→4, 3→2, 26→25, 31→30
+abbrev pub unblocks : List Change
+unblocks = Blocked ⇒ Mapped ∷ PendingBlocked ⇒ Pending ∷ ExportedBlocked ⇒ ExportedModified ∷ PendingExportedBlocked ⇒ PendingExportedModified ∷ []
+
+-- remove: 1 and 3→0, 26 and 31→27
+abbrev pub removes : List Change
+removes = Blocked ⇒ Free ∷ PendingBlocked ⇒ Free ∷ ExportedBlocked ⇒ ExportedRemoved ∷ PendingExportedBlocked ⇒ ExportedRemoved ∷ []
+
+-- ---- session calls
+
+-- start: any state outside 0 to 4, or strange, is 45
+abbrev pub startableStates : List State
+startableStates = Free ∷ Blocked ∷ Pending ∷ PendingBlocked ∷ Mapped ∷ []
+
+-- start and abort: stamp 0 except in 1 and 3
+abbrev pub stampedStates : List State
+stampedStates = Blocked ∷ PendingBlocked ∷ []
+
+-- pause: any of 1, 3, 26, 31 is 48
+abbrev pub blockedStates : List State
+blockedStates = Blocked ∷ PendingBlocked ∷ ExportedBlocked ∷ PendingExportedBlocked ∷ []
+
+-- abort: 24, 25→4; 29, 30→2; 26→1; 31→3; 27→0
+abbrev pub aborts : List Change
+aborts =
+    Exported ⇒ Mapped
+    ∷ ExportedModified ⇒ Mapped
+    ∷ PendingExported ⇒ Pending
+    ∷ PendingExportedModified ⇒ Pending
+    ∷ ExportedBlocked ⇒ Blocked
+    ∷ PendingExportedBlocked ⇒ PendingBlocked
+    ∷ ExportedRemoved ⇒ Free
+    ∷ []
+
+-- start token: 53 for 25, 26, 27, 30, 31
+abbrev pub changedStates : List State
+changedStates = ExportedModified ∷ ExportedBlocked ∷ ExportedRemoved ∷ PendingExportedModified ∷ PendingExportedBlocked ∷ []
+
+-- and for 24 or 29 with Dirty
+abbrev pub sentStates : List State
+sentStates = Exported ∷ PendingExported ∷ []
+
+-- 54 for 1 to 4
+abbrev pub unsentStates : List State
+unsentStates = Blocked ∷ Pending ∷ PendingBlocked ∷ Mapped ∷ []
 
 -- ---- scans
 
+-- PENDING 1 for 2, 29, 30, 31
+abbrev pub pendingStates : List State
+pendingStates = Pending ∷ PendingExported ∷ PendingExportedModified ∷ PendingExportedBlocked ∷ []
+
 -- 2, 4; 25, 30; 27; DSCAN also 26, 31, at which a DCHECK stops; 24 and 29 are listed with Dirty alone
-abbrev pub listed : List State
-listed = Pending ∷ Mapped ∷ ExportedModified ∷ PendingExportedModified ∷ ExportedRemoved ∷ ExportedBlocked ∷ PendingExportedBlocked ∷ []
+abbrev pub listedStates : List State
+listedStates = Pending ∷ Mapped ∷ ExportedModified ∷ PendingExportedModified ∷ ExportedRemoved ∷ ExportedBlocked ∷ PendingExportedBlocked ∷ []
 
 -- the hint: 2, 4 (0); 25, 30, 24, 29 (1); 27 (3); 26, 31 (2)
 abbrev pub hinted : List Numbered
@@ -49,14 +109,18 @@ abbrev pub looks : List Change
 looks = Exported ⇒ ExportedModified ∷ PendingExported ⇒ PendingExportedModified ∷ []
 
 -- a listed page in 2, 4, 25, 30 then has Dirty 0 and stamp equal to the TLB epoch
-abbrev pub renewed : List State
-renewed = Pending ∷ Mapped ∷ ExportedModified ∷ PendingExportedModified ∷ []
+abbrev pub renewedStates : List State
+renewedStates = Pending ∷ Mapped ∷ ExportedModified ∷ PendingExportedModified ∷ []
 
 -- ---- exports
 
--- strange, 0, 1, 3 are status 4; 24 and 29 are so without Dirty
-abbrev pub barred : List State
-barred = Strange ∷ Free ∷ Blocked ∷ PendingBlocked ∷ []
+-- 0, 1, 3 are status 4, as a strange page is; 24 and 29 are so without Dirty
+abbrev pub barredStates : List State
+barredStates = Free ∷ Blocked ∷ PendingBlocked ∷ []
+
+-- the tests of Dirty and stamp are not for 26, 27, 31
+abbrev pub cancelledStates : List State
+cancelledStates = ExportedBlocked ∷ ExportedRemoved ∷ PendingExportedBlocked ∷ []
 
 -- 4→24 and 2→29; 25→24 and 30→29; 26→1, 31→3, 27→0
 abbrev pub exports : List Change
@@ -82,27 +146,6 @@ operated =
     ∷ ExportedRemoved ⟼ operations.cancel
     ∷ []
 
--- the tests of Dirty and stamp are not for 26, 27, 31
-abbrev pub cancelled : List State
-cancelled = ExportedBlocked ∷ ExportedRemoved ∷ PendingExportedBlocked ∷ []
-
 -- data pages are those exported from 4 or 25
-abbrev pub dataPages : List State
-dataPages = Mapped ∷ ExportedModified ∷ []
-
--- an export that has no move for a state takes it to Strange, as in `rowOf`
-unfoldable pub listingOf : State → Listing
-listingOf s =
-    record {
-      listed = isIn s listed;
-      sent = isIn s sent;
-      pending = isIn s pending;
-      hint = numberIn hinted s;
-      look = taken looks s s;
-      renewed = isIn (taken looks s s) renewed;
-      barred = isIn s barred;
-      export = taken exports Strange s;
-      operation = numberIn operated s;
-      cancelled = isIn s cancelled;
-      contents = isIn s dataPages;
-    }
+abbrev pub dataStates : List State
+dataStates = Mapped ∷ ExportedModified ∷ []

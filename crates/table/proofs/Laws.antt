@@ -2,7 +2,7 @@
 use mathlib.Core.Path.{_≡_, refl, sym, ap, _∙_}
 use mathlib.Core.Logic.{⊎-elim}
 use mathlib.Core.Bool.{Bool, true, false, cond}
-use mathlib.Core.List.{List}
+use mathlib.Core.List.{List, [], _∷_}
 use Prim.Native.Nat.{ℕ, zero, suc, _+_, _-_, _*_, _≤_, _<_}
 use native.Mathlib.Omega.{arith}
 use native.Mathlib.Numerals.{add-one}
@@ -11,11 +11,9 @@ use lib.Dec.{ltb}
 use lib.ListN.{length, set, length-set}
 use lib.Seq.{getD-set-same, getD-set-other}
 use borrow.Author.Tests.{lt-ltb, le-ltb, ltb-true, ltb-false}
-use Rattle.page.specs.Page.{pageOf, written}
-use Rattle.page.specs.Sweeps.{unlessStrange, sweptWords}
-use Rattle.page.specs.declared.Page.{Page}
-use Rattle.page.specs.declared.records.PageWords.{PageWords}
-use Rattle.page.proofs.Laws.{Becomes, page-becomes}
+use Rattle.page.specs.Page.{Page, pageOf, strange, onWords, unlessStrange}
+use Rattle.page.specs.declared.PageWords.{PageWords}
+use Rattle.page.proofs.Laws.{Held, Holds, read-held, page-moved}
 use Rattle.table.specs.Table.{pageCount, wordsAt, pageAt, putAt, sweepOf, lowest, some, Lowest}
 
 -- ---- words that were put
@@ -66,35 +64,92 @@ put-back t i = go (ltb i (pageCount t)) refl
 
 -- ---- a sweep, for any move of a page's words
 
-module _ (f : PageWords → PageWords) (t : List ℕ) where
-  pub sweep-length : (n : ℕ) → length (sweepOf f n t) ≡ length t
-  sweep-length zero = refl
-  sweep-length (suc n) = put-length (sweepOf f n t) n (f (wordsAt (sweepOf f n t) n)) ∙ sweep-length n
+ltb-suc : (m n : ℕ) → ltb (suc m) (suc n) ≡ ltb m n
+ltb-suc m n = by (ltb m n) refl
+  where
+    by : (b : Bool) → ltb m n ≡ b → ltb (suc m) (suc n) ≡ b
+    by true e = let h : m < n = ltb-true m n e in lt-ltb (suc m) (suc n) (omega arith)
+    by false e = let h : n ≤ m = ltb-false m n e in le-ltb (suc m) (suc n) (omega arith)
 
-  -- a page that the sweep has not come to
-  pub sweep-ahead : (n k : ℕ) → n ≤ k → wordsAt (sweepOf f n t) k ≡ wordsAt t k
-  sweep-ahead zero k h = refl
-  sweep-ahead (suc n) k h =
-      put-other (sweepOf f n t) n k (f (wordsAt (sweepOf f n t) n)) (λ e. omega arith) ∙ sweep-ahead n k (omega arith)
+-- the first page of a table, and those behind it
+module _ (a b : ℕ) (t : List ℕ) where
+  more : pageCount (a ∷ b ∷ t) ≡ suc (pageCount t)
+  more = omega arith
 
-  -- and one that it has passed
-  pub sweep-at : (n k : ℕ) → n ≤ pageCount t → k < n → wordsAt (sweepOf f n t) k ≡ f (wordsAt t k)
-  sweep-at zero k m h = absurd (omega arith)
-  sweep-at (suc n) k m h =
-      let room : n < pageCount (sweepOf f n t) = rw (sweep-length n) (omega arith) in
-      ⊎-elim
-      (λ e. rw e (put-same (sweepOf f n t) n (f (wordsAt (sweepOf f n t) n)) room ∙ ap f (sweep-ahead n n (omega arith))))
-      (λ l. put-other (sweepOf f n t) n k (f (wordsAt (sweepOf f n t) n)) (λ e. omega arith) ∙ sweep-at n k (omega arith) l)
-      (eq-or-lt-of-le (le-of-suc-le-suc h))
+  at-first : wordsAt (a ∷ b ∷ t) 0 ≡ record { word = a; mark = b }
+  unfolding wordsAt
+  at-first = let inside : 0 < pageCount (a ∷ b ∷ t) = omega arith in rw (lt-ltb 0 (pageCount (a ∷ b ∷ t)) inside)
+
+  at-behind : (k : ℕ) → wordsAt (a ∷ b ∷ t) (suc k) ≡ wordsAt t k
+  unfolding wordsAt
+  at-behind k =
+      let even : 2 * suc k ≡ suc (suc (2 * k)) = omega arith in
+      let odd : 2 * suc k + 1 ≡ suc (suc (2 * k + 1)) = omega arith in
+      rw (more, ltb-suc k (pageCount t), odd, even)
+
+  put-first : (w : PageWords) → putAt (a ∷ b ∷ t) 0 w ≡ w .word ∷ w .mark ∷ t
+  unfolding putAt
+  put-first w = let inside : 0 < pageCount (a ∷ b ∷ t) = omega arith in rw (lt-ltb 0 (pageCount (a ∷ b ∷ t)) inside)
+
+  put-behind : (k : ℕ) (w : PageWords) → putAt (a ∷ b ∷ t) (suc k) w ≡ a ∷ b ∷ putAt t k w
+  unfolding putAt
+  put-behind k w =
+      let even : 2 * suc k ≡ suc (suc (2 * k)) = omega arith in
+      let odd : 2 * suc k + 1 ≡ suc (suc (2 * k + 1)) = omega arith in
+      rw (more, ltb-suc k (pageCount t), odd, even) (by (ltb k (pageCount t)))
+    where
+      by : (c : Bool) → cond c (a ∷ b ∷ set (set t (2 * k) (w .word)) (2 * k + 1) (w .mark)) (a ∷ b ∷ t) ≡ a ∷ b ∷ cond c (set (set t (2 * k) (w .word)) (2 * k + 1) (w .mark)) t
+      by true = refl
+      by false = refl
+
+module _ (f : PageWords → PageWords) where
+  pub sweep-length : (t : List ℕ) → length (sweepOf f t) ≡ length t
+  sweep-length [] = refl
+  sweep-length (a ∷ []) = refl
+  sweep-length (a ∷ b ∷ t) = ap (λ (n : ℕ). suc (suc n)) (sweep-length t)
+
+  -- a page of the table, and what stands behind it
+  pub sweep-at : (t : List ℕ) (k : ℕ) → k < pageCount t → wordsAt (sweepOf f t) k ≡ f (wordsAt t k)
+  sweep-at [] k h = absurd (omega arith)
+  sweep-at (a ∷ []) k h = absurd (omega arith)
+  sweep-at (a ∷ b ∷ t) zero h = at-first _ _ (sweepOf f t) ∙ ap f (sym (at-first a b t))
+  sweep-at (a ∷ b ∷ t) (suc k) h = at-behind _ _ (sweepOf f t) k ∙ sweep-at t k (omega arith) ∙ ap f (sym (at-behind a b t k))
+
+  pub sweep-past : (t : List ℕ) (k : ℕ) → pageCount t ≤ k → wordsAt (sweepOf f t) k ≡ wordsAt t k
+  unfolding wordsAt
+  sweep-past t k h =
+      let past : ltb k (pageCount t) ≡ false = le-ltb k (pageCount t) h in
+      rw (sweep-length t, past)
+
+  -- how a loop comes to it: f on each of the first n pages
+  abbrev pub sweepFirst : ℕ → List ℕ → List ℕ
+  sweepFirst zero t = t
+  sweepFirst (suc n) t = putAt (sweepFirst n t) n (f (wordsAt (sweepFirst n t) n))
+
+  first-behind : (n a b : ℕ) (t : List ℕ) → sweepFirst (suc n) (a ∷ b ∷ t) ≡ f (record { word = a; mark = b }) .word ∷ f (record { word = a; mark = b }) .mark ∷ sweepFirst n t
+  first-behind zero a b t = put-first a b t (f (wordsAt (a ∷ b ∷ t) 0)) ∙ ap (λ (w : PageWords). f w .word ∷ f w .mark ∷ t) (at-first a b t)
+  first-behind (suc n) a b t =
+      let s = sweepFirst n t in
+      let v = f (record { word = a; mark = b }) in
+      ap (λ (u : List ℕ). putAt u (suc n) (f (wordsAt u (suc n)))) (first-behind n a b t)
+      ∙ put-behind (v .word) (v .mark) s n (f (wordsAt (v .word ∷ v .mark ∷ s) (suc n)))
+      ∙ ap (λ (w : PageWords). v .word ∷ v .mark ∷ putAt s n (f w)) (at-behind (v .word) (v .mark) s n)
+
+  pub sweep-first : (t : List ℕ) → sweepFirst (pageCount t) t ≡ sweepOf f t
+  sweep-first [] = refl
+  sweep-first (a ∷ []) = refl
+  sweep-first (a ∷ b ∷ t) =
+      let v = f (record { word = a; mark = b }) in
+      ap (λ (n : ℕ). sweepFirst n (a ∷ b ∷ t)) (more a b t) ∙ first-behind (pageCount t) a b t ∙ ap (λ (u : List ℕ). v .word ∷ v .mark ∷ u) (sweep-first t)
 
 -- ---- the same for any move of a page: page k afterwards is the move of page k before
 
-pub page-sweep : (f : Page → Page) → ((p : Page) → Becomes p (unlessStrange f p)) → (t : List ℕ) (k : ℕ) → k < pageCount t → pageAt (sweepOf (sweptWords f) (pageCount t) t) k ≡ unlessStrange f (pageAt t k)
-page-sweep f g t k h =
-    ap pageOf (sweep-at (sweptWords f) t (pageCount t) k (omega arith) h) ∙ page-becomes (wordsAt t k) (unlessStrange f (pageAt t k)) (g (pageAt t k))
+pub page-swept : (f : Page → Page) → Holds f → (t : List ℕ) (k : ℕ) → k < pageCount t → pageAt (sweepOf (onWords f) t) k ≡ unlessStrange f (pageAt t k)
+page-swept f g t k h =
+    ap pageOf (sweep-at (onWords f) t k h) ∙ page-moved f (wordsAt t k) (λ e. g (pageAt t k) (read-held (wordsAt t k) e))
 
-pub page-put : (t : List ℕ) (i : ℕ) (q : Page) → i < pageCount t → Becomes (pageAt t i) q → pageAt (putAt t i (written (wordsAt t i) q)) i ≡ q
-page-put t i q h b = ap pageOf (put-same t i (written (wordsAt t i) q) h) ∙ page-becomes (wordsAt t i) q b
+pub page-put : (f : Page → Page) (t : List ℕ) (i : ℕ) → i < pageCount t → (strange (pageAt t i) ≡ false → Held (f (pageAt t i))) → pageAt (putAt t i (onWords f (wordsAt t i))) i ≡ unlessStrange f (pageAt t i)
+page-put f t i h g = ap pageOf (put-same t i (onWords f (wordsAt t i)) h) ∙ page-moved f (wordsAt t i) g
 
 -- ---- the lowest page of a kind
 

@@ -1,13 +1,12 @@
 -- The table: two words a page.
 use mathlib.Core.Path.{_≡_}
 use mathlib.Core.Bool.{Bool, true, false, cond, not, _&&_}
-use mathlib.Core.List.{List}
+use mathlib.Core.List.{List, [], _∷_}
 use Prim.Native.Nat.{ℕ, zero, suc, _+_, _*_, _/_, _%_, _<_}
 use lib.ListN.{length, getD, set}
 use lib.Dec.{eqb, ltb, leb}
-use Rattle.page.specs.Page.{pageOf}
-use Rattle.page.specs.declared.Page.{Page}
-use Rattle.page.specs.declared.records.PageWords.{PageWords}
+use Rattle.page.specs.Page.{Page, pageOf}
+use Rattle.page.specs.declared.PageWords.{PageWords}
 
 -- the largest guest
 abbrev pub mostPages : ℕ
@@ -31,10 +30,11 @@ pageAt t i = pageOf (wordsAt t i)
 unfoldable pub putAt : List ℕ → ℕ → PageWords → List ℕ
 putAt t i w = cond (ltb i (pageCount t)) (set (set t (2 * i) (w .word)) (2 * i + 1) (w .mark)) t
 
--- f on the words of each of the first n pages
-abbrev pub sweepOf : (PageWords → PageWords) → ℕ → List ℕ → List ℕ
-sweepOf f zero t = t
-sweepOf f (suc n) t = putAt (sweepOf f n t) n (f (wordsAt (sweepOf f n t) n))
+-- each page becomes f of that page (a last word without a second is none)
+abbrev pub sweepOf : (PageWords → PageWords) → List ℕ → List ℕ
+sweepOf f [] = []
+sweepOf f (word ∷ []) = word ∷ []
+sweepOf f (word ∷ mark ∷ t) = let w = f (record { word = word; mark = mark }) in w .word ∷ w .mark ∷ sweepOf f t
 
 -- the lowest of n pages from i on of which f holds; i + n where there is none
 abbrev pub lowest : (Page → Bool) → ℕ → ℕ → List ℕ → ℕ

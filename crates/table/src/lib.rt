@@ -1,13 +1,12 @@
 // The table that the caller lends, two words a page, as pages: each can be read, written and looked for, and all of them moved or cleared. Every page number is taken: past the end there are zeros, and nothing is written there.
 ghost use mathlib.Core.Path.{_≡_};
 ghost use lib.ListN.{length, replicate};
-ghost use Rattle.page.specs.Page.{sought};
-ghost use Rattle.page.specs.Sweeps.{sweptBy, sweptWords};
+ghost use Rattle.page.specs.Page.{onWords, sought};
+ghost use Rattle.page.specs.Sweeps.{sweptBy};
 ghost use Rattle.table.specs.Table.{legal, pageCount, wordsAt, putAt, sweepOf, lowest, some};
+use page::PageWords;
 use page::queries;
 use page::queries::Sought;
-use page::records;
-use page::records::PageWords;
 use page::sweeps;
 use page::sweeps::Sweep;
 
@@ -44,7 +43,7 @@ pub fn store(table: &mut [u64], at: usize, w: PageWords)
 
 // Every page moved.
 pub fn sweep_all(table: &mut [u64], k: Sweep)
-    ensures { λ _. ⌜ now (table .exit) ≡ sweepOf (sweptWords (sweptBy k)) (pageCount (now (table .entry))) (now (table .entry)) ⌝ }
+    ensures { λ _. ⌜ now (table .exit) ≡ sweepOf (onWords (sweptBy k)) (now (table .entry)) ⌝ }
 {
     let n = table.len() / 2;
     let mut i: usize = 0;
@@ -64,8 +63,7 @@ pub fn find(table: &[u64], k: Sought) -> usize
     let mut i: usize = 0;
     while i < n {
         let w = load(table, i);
-        let page = records::page_of(w);
-        if queries::is_sought(k, page) {
+        if queries::is_sought(k, w) {
             return i;
         }
         i = i + 1;

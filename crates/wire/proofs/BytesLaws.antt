@@ -11,7 +11,7 @@ use lib.Dec.{ltb}
 use lib.ListN.{length, getD, set, take, drop, replicate, length-append, length-drop, length-set, List·getD-append}
 use lib.Seq.{sets-eq, ext-getD, getD-at, getD-drop, take-suc, take-add, take-all}
 use borrow.Author.Tests.{ltb-true}
-use Rattle.page.specs.declared.records.PageWords.{PageWords}
+use Rattle.page.specs.declared.PageWords.{PageWords}
 use Rattle.table.specs.Table.{pageCount, putAt}
 use Rattle.wire.specs.Bytes.{halfAt, wordAt, halfBytes, wordBytes, putWord, upTo, wordsOf, bytesOf, Bytes, Words}
 use Rattle.wire.specs.Tables.{putPage}

@@ -9,18 +9,17 @@ use lib.ListN.{length, getD, drop, drop-of-length-le}
 use lib.Seq.{drop-cons}
 use borrow.Author.Tests.{leb-true, eqb-true, ltb-true}
 use Rattle.refusals.proofs.Laws.{and-left, and-right, either}
-use Rattle.session.specs.Session.{phaseNumber, among, streamPlaces, resting, runOf}
-use Rattle.session.specs.Formed.{streamIs, formed}
+use Rattle.session.specs.Session.{phaseNumber, among, streamPlaces, resting, workAt, workOf}
+use Rattle.session.specs.Formed.{formed}
 use Rattle.session.specs.declared.Phase.{Phase}
 use Rattle.session.specs.declared.Phase.the-variants.{Idle, Live, Blackout, Done}
 use Rattle.session.specs.declared.Session.{Session}
-use Rattle.session.specs.declared.streams.Run.{Run}
-use Rattle.session.specs.declared.streams.Run.the-variants.{AtRest, Interrupted}
-use Rattle.session.specs.declared.streams.Asked.the-variants as asked
+use Rattle.session.specs.declared.streams.Work.{Work}
+use Rattle.session.specs.declared.streams.Work.the-variants.{AtRest, Interrupted}
 use Rattle.session.specs.declared.streams.Stream.{Stream}
-use Rattle.session.proofs.FormedLaws.{every-hold, hold-every, Formed, formed-means, idle-is, stream-means}
+use Rattle.session.proofs.FormedLaws.{every-hold, hold-every, WorkFormed, Formed, formed-means, idle-is}
 use Rattle.wire.specs.Bytes.{Words}
-use Rattle.wire.specs.Sessions.{sessionLength, phaseOf, streamFits, streamsFit, fits, sessionOf, bitOf, runWords, streamThen, streamsFrom, sessionWords}
+use Rattle.wire.specs.Sessions.{sessionLength, phaseOf, streamFits, streamsFit, fits, sessionOf, bitOf, workWords, streamThen, streamsFrom, sessionWords}
 use Rattle.wire.specs.declared.sessions.StreamWords.{StreamWords}
 use Rattle.wire.specs.Promises.{Word, RunNumbers, Numbers}
 
@@ -73,11 +72,11 @@ bit-back false = refl
 
 -- the stream of five words
 abbrev streamOf : StreamWords → Stream
-streamOf x = record { run = cond (eqb (x .flag) 0) AtRest (Interrupted (x .next) (x .last) (x .errors) (x .pages)) }
+streamOf x = record { work = cond (eqb (x .flag) 0) AtRest (Interrupted (x .next) (x .last) (x .errors) (x .filled)) }
 
-stream-back : (r : Run) → streamOf (runWords r) ≡ record { run = r }
+stream-back : (r : Work) → streamOf (workWords r) ≡ record { work = r }
 stream-back AtRest = refl
-stream-back (Interrupted next last errors pages) = refl
+stream-back (Interrupted next last errors filled) = refl
 
 session-same :
     (s : Session) {p : Phase} {a b : Bool} {l : List Stream} →
@@ -98,7 +97,7 @@ session-same :
 session-same s e f g h = rw (e, f, g, h)
 
 pub session-back : (s : Session) → length (s .streams) ≡ streamPlaces → sessionOf (sessionWords s) ≡ s
-unfolding sessionOf sessionWords runOf
+unfolding sessionOf sessionWords workOf
 session-back s e =
     session-same s (phase-back (s .phase)) (bit-back (s .check .complete)) (bit-back (s .check .failed))
     (cons-same (stream-back _) (cons-same (stream-back _) (cons-same (stream-back _) (cons-same (stream-back _)
@@ -110,7 +109,7 @@ session-back s e =
 -- five words that are a stream
 abbrev wordsFit : StreamWords → Bool
 wordsFit x =
-    eqb (x .flag) 1 || eqb (x .flag) 0 && (eqb (x .next) 0 && eqb (x .last) 0 && eqb (x .errors) 0 && eqb (x .pages) 0)
+    eqb (x .flag) 1 || eqb (x .flag) 0 && (eqb (x .next) 0 && eqb (x .last) 0 && eqb (x .errors) 0 && eqb (x .filled) 0)
 
 phase-fits : (p : Phase) → leb (phaseNumber p) 3 ≡ true
 phase-fits Idle = refl
@@ -122,9 +121,9 @@ bit-fits : (b : Bool) → leb (bitOf b) 1 ≡ true
 bit-fits true = refl
 bit-fits false = refl
 
-run-fits : (r : Run) → wordsFit (runWords r) ≡ true
+run-fits : (r : Work) → wordsFit (workWords r) ≡ true
 run-fits AtRest = refl
-run-fits (Interrupted next last errors pages) = refl
+run-fits (Interrupted next last errors filled) = refl
 
 -- the tests of the layout
 abbrev ownTests : List ℕ → List Bool
@@ -137,7 +136,7 @@ streamTests w =
 pub session-fits : (s : Session) → fits (sessionWords s) ≡ true
 unfolding fits sessionWords
 session-fits s =
-    let r : (i : ℕ) → wordsFit (runWords (runOf s i)) ≡ true = λ i. run-fits (runOf s i) in
+    let r : (i : ℕ) → wordsFit (workWords (workOf s i)) ≡ true = λ i. run-fits (workOf s i) in
     let streams = hold-every (streamTests (sessionWords s)) (r 0, (r 1, (r 2, (r 3, (r 4, (r 5, (r 6, (r 7, tt)))))))) in
     hold-every (ownTests (sessionWords s)) (phase-fits (s .phase), (bit-fits (s .check .complete), (bit-fits (s .check .failed), (streams, tt))))
 
@@ -159,13 +158,13 @@ one-of : {P : Type 0} (a b : Bool) → (a ≡ true → P) → (b ≡ true → P)
 one-of true b f g e = f refl
 one-of false b f g e = g e
 
-stream-words : (x : StreamWords) → wordsFit x ≡ true → runWords (streamOf x .run) ≡ x
-stream-words x = go (x .flag) (x .next) (x .last) (x .errors) (x .pages)
+stream-words : (x : StreamWords) → wordsFit x ≡ true → workWords (streamOf x .work) ≡ x
+stream-words x = go (x .flag) (x .next) (x .last) (x .errors) (x .filled)
   where
     go :
         (f n l e p : ℕ) →
-        wordsFit (record { flag = f; next = n; last = l; errors = e; pages = p }) ≡ true →
-        runWords (cond (eqb f 0) AtRest (Interrupted n l e p)) ≡ record { flag = f; next = n; last = l; errors = e; pages = p }
+        wordsFit (record { flag = f; next = n; last = l; errors = e; filled = p }) ≡ true →
+        workWords (cond (eqb f 0) AtRest (Interrupted n l e p)) ≡ record { flag = f; next = n; last = l; errors = e; filled = p }
     go f n l e p =
         let rest = eqb n 0 && eqb l 0 && eqb e 0 && eqb p 0 in
         one-of (eqb f 1) (eqb f 0 && rest) (λ one. rw (eqb-true f 1 one))
@@ -174,7 +173,7 @@ stream-words x = go (x .flag) (x .next) (x .last) (x .errors) (x .pages)
         rw (eqb-true f 0 (and-left (eqb f 0) rest blank), eqb-true n 0 (z .0), eqb-true l 0 (z .1 .0), eqb-true e 0 (z .1 .1 .0), eqb-true p 0 (z .1 .1 .1 .0)))
 
 pub layout-back : (w : List ℕ) → length w ≡ sessionLength → fits w ≡ true → sessionWords (sessionOf w) ≡ w
-unfolding fits sessionOf sessionWords runOf
+unfolding fits sessionOf sessionWords workOf
 layout-back w e f =
     let own = every-hold (ownTests w) f in
     let streams = every-hold (streamTests w) (own .1 .1 .1 .0) in
@@ -210,13 +209,13 @@ bit-word b =
     let small : bitOf b ≤ 1 = leb-true _ _ (bit-fits b) in
     omega arith
 
-run-words : (r : Run) (l : List ℕ) → RunNumbers r → AllWords l → AllWords (streamThen (runWords r) l)
+run-words : (r : Work) (l : List ℕ) → RunNumbers r → AllWords l → AllWords (streamThen (workWords r) l)
 run-words AtRest l h a = (lit< tt, (lit< tt, (lit< tt, (lit< tt, (lit< tt, a)))))
-run-words (Interrupted next last errors pages) l h a = (lit< tt, (h .0, (h .1, (h .2, (h .3, a)))))
+run-words (Interrupted next last errors filled) l h a = (lit< tt, (h .0, (h .1, (h .2, (h .3, a)))))
 
 streams-words : (s : Session) (n i : ℕ) → Numbers s → AllWords (streamsFrom s n i)
 streams-words s zero i h = tt
-streams-words s (suc n) i h = run-words (runOf s i) (streamsFrom s n (suc i)) (h .runs i) (streams-words s n (suc i) h)
+streams-words s (suc n) i h = run-words (workOf s i) (streamsFrom s n (suc i)) (h .runs i) (streams-words s n (suc i) h)
 
 pub session-words : (s : Session) → Numbers s → Words (sessionWords s)
 unfolding sessionWords
@@ -226,7 +225,7 @@ session-words s h =
 
 -- a well-formed session has such numbers
 pub formed-numbers : (s : Session) (len : ℕ) → formed s len ≡ true → Numbers s
-unfolding runOf
+unfolding workOf
 formed-numbers s len e =
     let f = formed-means s len e in
     let pages = f .pages .high in
@@ -239,25 +238,16 @@ formed-numbers s len e =
       epoch = epoch f _ refl;
       created = omega arith;
       place = omega arith;
-      runs = λ i. runs i (f .streams i);
+      runs = λ i. either RunNumbers (ltb i streamPlaces) (λ y. run _ _ i (workAt s i) (f .streams i (ltb-true _ _ y))) (λ n. tt);
     }
   where
     epoch : Formed s len → (b : Bool) → among (Idle ∷ []) (s .phase) ≡ b → Word (s .epoch)
     epoch f true q = omega (arith, f .idle (idle-is (s .phase) q))
     epoch f false q = omega (arith, f .begun (λ p. true≢false (sym (ap (among (Idle ∷ [])) p) ∙ q)) .high)
 
-    run : (i : ℕ) (r : Run) → getD (s .streams) i resting .run ≡ r → streamIs asked.Formed s i ≡ true → RunNumbers r
-    run i AtRest q h = tt
-    run i (Interrupted next last errors pages) q h =
-        let m = stream-means s i next last errors pages q h in
-        let a = m .ordered in
-        let b = m .short in
-        let c = m .few-errors in
-        let d = m .few-pages in
-        (omega arith, omega arith, omega arith, omega arith)
-
-    runs : (i : ℕ) → (i < streamPlaces → streamIs asked.Formed s i ≡ true) → RunNumbers (cond (ltb i streamPlaces) (getD (s .streams) i resting .run) AtRest)
-    runs i h = either RunNumbers (ltb i streamPlaces) (λ y. run i _ refl (h (ltb-true _ _ y))) (λ n. tt)
+    run : (moves : Bool) (created i : ℕ) (r : Work) → WorkFormed moves created i r → RunNumbers r
+    run moves created i AtRest w = tt
+    run moves created i (Interrupted next last errors filled) w = (omega arith, omega arith, omega arith, omega arith)
 
 pub formed-words : (s : Session) (len : ℕ) → formed s len ≡ true → Words (sessionWords s)
 formed-words s len e = session-words s (formed-numbers s len e)

@@ -4,12 +4,12 @@ use mathlib.Core.List.{List, [], _∷_}
 use Prim.Native.Nat.{ℕ, zero, suc, _+_}
 use lib.Dec.{eqb, leb}
 use lib.ListN.{getD}
-use Rattle.session.specs.Session.{phaseNumber, streamPlaces, runOf}
+use Rattle.session.specs.Session.{phaseNumber, streamPlaces, workOf}
 use Rattle.session.specs.declared.Phase.{Phase}
 use Rattle.session.specs.declared.Phase.the-variants.{Idle, Live, Blackout, Done}
 use Rattle.session.specs.declared.Session.{Session}
-use Rattle.session.specs.declared.streams.Run.{Run}
-use Rattle.session.specs.declared.streams.Run.the-variants.{AtRest, Interrupted}
+use Rattle.session.specs.declared.streams.Work.{Work}
+use Rattle.session.specs.declared.streams.Work.the-variants.{AtRest, Interrupted}
 use Rattle.session.specs.declared.streams.Stream.{Stream}
 use Rattle.wire.specs.declared.sessions.StreamWords.{StreamWords}
 
@@ -25,7 +25,7 @@ phaseOf x = cond (eqb x 0) Idle (cond (eqb x 1) Live (cond (eqb x 2) Blackout Do
 -- the stream whose five words begin at `at`: interrupted, next entry, last entry, errors, data pages
 abbrev pub streamAt : List ℕ → ℕ → Stream
 streamAt w at =
-    record { run = cond (eqb (getD w at 0) 0) AtRest (Interrupted (getD w (at + 1) 0) (getD w (at + 2) 0) (getD w (at + 3) 0) (getD w (at + 4) 0)) }
+    record { work = cond (eqb (getD w at 0) 0) AtRest (Interrupted (getD w (at + 1) 0) (getD w (at + 2) 0) (getD w (at + 3) 0) (getD w (at + 4) 0)) }
 
 -- interrupted is 0 or 1, and all five are 0 at rest
 abbrev pub streamFits : List ℕ → ℕ → Bool
@@ -60,18 +60,18 @@ abbrev pub bitOf : Bool → ℕ
 bitOf true = 1
 bitOf false = 0
 
-abbrev pub runWords : Run → StreamWords
-runWords AtRest = record { flag = 0; next = 0; last = 0; errors = 0; pages = 0 }
-runWords (Interrupted next last errors pages) = record { flag = 1; next = next; last = last; errors = errors; pages = pages }
+abbrev pub workWords : Work → StreamWords
+workWords AtRest = record { flag = 0; next = 0; last = 0; errors = 0; filled = 0 }
+workWords (Interrupted next last errors filled) = record { flag = 1; next = next; last = last; errors = errors; filled = filled }
 
 -- the words of a stream before those that follow
 abbrev pub streamThen : StreamWords → List ℕ → List ℕ
-streamThen x rest = x .flag ∷ x .next ∷ x .last ∷ x .errors ∷ x .pages ∷ rest
+streamThen x rest = x .flag ∷ x .next ∷ x .last ∷ x .errors ∷ x .filled ∷ rest
 
 -- the words of n streams from i on
 abbrev pub streamsFrom : Session → ℕ → ℕ → List ℕ
 streamsFrom s zero i = []
-streamsFrom s (suc n) i = streamThen (runWords (runOf s i)) (streamsFrom s n (suc i))
+streamsFrom s (suc n) i = streamThen (workWords (workOf s i)) (streamsFrom s n (suc i))
 
 unfoldable pub sessionWords : Session → List ℕ
 sessionWords s =

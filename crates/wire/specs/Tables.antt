@@ -4,7 +4,7 @@ use mathlib.Core.List.{List}
 use Prim.Native.Nat.{ℕ, _+_, _*_, _/_}
 use lib.Dec.{ltb}
 use lib.ListN.{length}
-use Rattle.page.specs.declared.records.PageWords.{PageWords}
+use Rattle.page.specs.declared.PageWords.{PageWords}
 use Rattle.wire.specs.Bytes.{putWord}
 
 -- the bytes with two words for page i; past the end, as they were

@@ -3,14 +3,14 @@ ghost use mathlib.Core.Path.{_≡_};
 ghost use Prim.Native.Nat.{_+_, _≤_};
 ghost use lib.ListN.{length};
 ghost use Rattle.session.specs.Session.{phaseNumber};
-ghost use Rattle.wire.specs.Sessions.{phaseOf, bitOf, streamAt, streamFits, streamsFit, runWords, sessionLength, fits, sessionOf, sessionWords};
+ghost use Rattle.wire.specs.Sessions.{phaseOf, bitOf, streamAt, streamFits, streamsFit, workWords, sessionLength, fits, sessionOf, sessionWords};
 use session::Check;
 use session::Phase;
 use session::Session;
 use session::streams;
-use session::streams::Run;
 use session::streams::STREAM_PLACES;
 use session::streams::Stream;
+use session::streams::Work;
 
 // How many words a session is.
 pub const SESSION_WORDS: usize = 48;
@@ -38,14 +38,14 @@ fn stream_at(w: &[u64], at: usize) -> Stream
     ensures { λ r. ⌜ r ≡ streamAt (now (w .entry)) at ⌝ }
 {
     if w[at] == 0 {
-        return Stream { run: Run::AtRest };
+        return Stream { work: Work::AtRest };
     }
     Stream {
-        run: Run::Interrupted {
+        work: Work::Interrupted {
             next: w[at + 1],
             last: w[at + 2],
             errors: w[at + 3],
-            pages: w[at + 4],
+            filled: w[at + 4],
         },
     }
 }
@@ -146,31 +146,31 @@ struct StreamWords {
     next: u64,
     last: u64,
     errors: u64,
-    pages: u64,
+    filled: u64,
 }
 
-fn stream_words(run: Run) -> StreamWords
-    ensures { λ r. ⌜ r ≡ runWords run ⌝ }
+fn stream_words(work: Work) -> StreamWords
+    ensures { λ r. ⌜ r ≡ workWords work ⌝ }
 {
-    match run {
-        Run::AtRest => StreamWords {
+    match work {
+        Work::AtRest => StreamWords {
             flag: 0,
             next: 0,
             last: 0,
             errors: 0,
-            pages: 0,
+            filled: 0,
         },
-        Run::Interrupted {
+        Work::Interrupted {
             next,
             last,
             errors,
-            pages,
+            filled,
         } => StreamWords {
             flag: 1,
             next,
             last,
             errors,
-            pages,
+            filled,
         },
     }
 }
@@ -183,14 +183,14 @@ pub fn words_of(s: Session) -> [u64; SESSION_WORDS]
     let phase = number_of(p);
     let complete = bit_of(s.check.complete);
     let failed = bit_of(s.check.failed);
-    let a = stream_words(streams::run_of(s, 0));
-    let b = stream_words(streams::run_of(s, 1));
-    let c = stream_words(streams::run_of(s, 2));
-    let d = stream_words(streams::run_of(s, 3));
-    let e = stream_words(streams::run_of(s, 4));
-    let f = stream_words(streams::run_of(s, 5));
-    let g = stream_words(streams::run_of(s, 6));
-    let h = stream_words(streams::run_of(s, 7));
+    let a = stream_words(streams::work_of(s, 0));
+    let b = stream_words(streams::work_of(s, 1));
+    let c = stream_words(streams::work_of(s, 2));
+    let d = stream_words(streams::work_of(s, 3));
+    let e = stream_words(streams::work_of(s, 4));
+    let f = stream_words(streams::work_of(s, 5));
+    let g = stream_words(streams::work_of(s, 6));
+    let h = stream_words(streams::work_of(s, 7));
     [
         phase,
         s.pages as u64,
@@ -204,41 +204,41 @@ pub fn words_of(s: Session) -> [u64; SESSION_WORDS]
         a.next,
         a.last,
         a.errors,
-        a.pages,
+        a.filled,
         b.flag,
         b.next,
         b.last,
         b.errors,
-        b.pages,
+        b.filled,
         c.flag,
         c.next,
         c.last,
         c.errors,
-        c.pages,
+        c.filled,
         d.flag,
         d.next,
         d.last,
         d.errors,
-        d.pages,
+        d.filled,
         e.flag,
         e.next,
         e.last,
         e.errors,
-        e.pages,
+        e.filled,
         f.flag,
         f.next,
         f.last,
         f.errors,
-        f.pages,
+        f.filled,
         g.flag,
         g.next,
         g.last,
         g.errors,
-        g.pages,
+        g.filled,
         h.flag,
         h.next,
         h.last,
         h.errors,
-        h.pages,
+        h.filled,
     ]
 }

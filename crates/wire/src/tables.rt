@@ -2,16 +2,15 @@
 ghost use mathlib.Core.Path.{_≡_};
 ghost use Prim.Native.Nat.{_%_};
 ghost use lib.ListN.{length, replicate};
-ghost use Rattle.page.specs.Page.{sought};
-ghost use Rattle.page.specs.Sweeps.{sweptBy, sweptWords};
+ghost use Rattle.page.specs.Page.{onWords, sought};
+ghost use Rattle.page.specs.Sweeps.{sweptBy};
 ghost use Rattle.table.specs.Table.{pageCount, wordsAt, sweepOf, lowest, some};
 ghost use Rattle.wire.specs.Bytes.{wordsOf, bytesOf};
 ghost use Rattle.wire.specs.Tables.{putPage};
 use crate::bytes;
+use page::PageWords;
 use page::queries;
 use page::queries::Sought;
-use page::records;
-use page::records::PageWords;
 use page::sweeps;
 use page::sweeps::Sweep;
 
@@ -39,7 +38,7 @@ pub fn store(b: &mut [u8], at: usize, w: PageWords)
 // Every page moved.
 pub fn sweep_all(b: &mut [u8], k: Sweep)
     requires { ⌜ length (now b) % 8 ≡ 0 ⌝ }
-    ensures { λ _. ⌜ now (b .exit) ≡ bytesOf (sweepOf (sweptWords (sweptBy k)) (pageCount (wordsOf (now (b .entry)))) (wordsOf (now (b .entry)))) ⌝ }
+    ensures { λ _. ⌜ now (b .exit) ≡ bytesOf (sweepOf (onWords (sweptBy k)) (wordsOf (now (b .entry)))) ⌝ }
 {
     let n = b.len() / 16;
     let mut i: usize = 0;
@@ -59,8 +58,7 @@ pub fn find(b: &[u8], k: Sought) -> usize
     let mut i: usize = 0;
     while i < n {
         let w = load(b, i);
-        let page = records::page_of(w);
-        if queries::is_sought(k, page) {
+        if queries::is_sought(k, w) {
             return i;
         }
         i = i + 1;

@@ -1,19 +1,15 @@
 // Words of document 01, built from their fields: what goes into the marked table and what comes out, info words and records.
-ghost use Prim.Native.Nat.{_<_, _^_};
 use crate::print;
 use words::entries;
 use words::entries::Entry;
 use words::hints;
 use words::infos::Info;
 use words::operations;
-use words::records;
 use words::states;
 use words::statuses;
 
 // An entry that asks for one page.
-fn asking(gpa: u64, operation: u64) -> u64
-    requires { ⌜ (gpa < 2 ^ 40) × (operation < 2 ^ 2) ⌝ }
-{
+fn asking(gpa: u64, operation: u64) -> u64 {
     entries::entry_word(Entry {
         level: 0,
         pending: false,
@@ -30,9 +26,7 @@ fn asking(gpa: u64, operation: u64) -> u64
 }
 
 // An entry as an export gives it back.
-fn answered(w: u64, operation: u64, pending: bool, status: u64) -> u64
-    requires { ⌜ (operation < 2 ^ 2) × (status < 2 ^ 5) ⌝ }
-{
+fn answered(w: u64, operation: u64, pending: bool, status: u64) -> u64 {
     let cleared = entries::set_l2_map(entries::set_state(w, 0), 0);
     let done = entries::set_pending(entries::set_operation(cleared, operation), pending);
     entries::set_status(done, status)
@@ -45,15 +39,11 @@ fn line(name: &[u8], before: u64, after: u64) {
     print::end();
 }
 
-fn failed(name: &[u8], w: u64, status: u64)
-    requires { ⌜ status < 2 ^ 5 ⌝ }
-{
+fn failed(name: &[u8], w: u64, status: u64) {
     line(name, w, answered(w, operations::NOP, false, status));
 }
 
-fn done(name: &[u8], w: u64, operation: u64, pending: bool)
-    requires { ⌜ operation < 2 ^ 2 ⌝ }
-{
+fn done(name: &[u8], w: u64, operation: u64, pending: bool) {
     line(name, w, answered(w, operation, pending, statuses::SUCCESS));
 }
 
@@ -85,9 +75,7 @@ fn print_scanned() {
     print::end();
 }
 
-fn info(name: &[u8], first: u64, last: u64)
-    requires { ⌜ (first < 2 ^ 9) × (last < 2 ^ 9) ⌝ }
-{
+fn info(name: &[u8], first: u64, last: u64) {
     let w = words::infos::info_word(Info {
         format: 0,
         first,
@@ -100,12 +88,10 @@ fn info(name: &[u8], first: u64, last: u64)
     print::end();
 }
 
-fn record(name: &[u8], state: u8, stamp: u64, epoch: u64)
-    requires { ⌜ (stamp < 2 ^ 16) × (epoch < 2 ^ 16) ⌝ }
-{
-    let w = records::set_epoch(
+fn record(name: &[u8], state: u8, stamp: u64, migrated: u64) {
+    let w = records::set_migrated(
         records::set_stamp(records::set_state(0, state), stamp),
-        epoch,
+        migrated,
     );
     print::text(b"record");
     print::word(name, w);

@@ -4,7 +4,6 @@ use crate::print;
 use words::classes::Class;
 use words::entries;
 use words::infos;
-use words::records;
 
 // Taken apart and joined again, a word is as it was.
 fn joined_entry(w: u64) -> u64
@@ -73,7 +72,7 @@ fn record(w: u64) {
     print::flag(b"cached", p.cached);
     print::number(b"spare10", p.spare10);
     print::number(b"stamp", p.stamp);
-    print::number(b"epoch", p.epoch);
+    print::number(b"epoch", p.migrated);
     print::number(b"spare48", p.spare48);
     print::flag(b"plain", records::is_plain(w));
     print::word(b"joined", joined_record(w));
@@ -89,12 +88,6 @@ pub(crate) fn apart(w: u64) {
     record(w);
 }
 
-// STATUS alone: the setter asks for a range that the reader promises, and the search for it does not reach across all the fields below.
-fn status_from(w: u64, v: u64) -> u64 {
-    let e = entries::entry_of(v);
-    entries::set_status(w, e.status)
-}
-
 // The word w with each of its fields in turn taken from v.
 fn entry_from(w: u64, v: u64) {
     let e = entries::entry_of(v);
@@ -106,7 +99,7 @@ fn entry_from(w: u64, v: u64) {
     print::word(b"mig_type", entries::set_mig_type(w, e.mig_type));
     print::word(b"gpa", entries::set_gpa(w, e.gpa));
     print::word(b"operation", entries::set_operation(w, e.operation));
-    print::word(b"status", status_from(w, v));
+    print::word(b"status", entries::set_status(w, e.status));
     print::end();
 }
 
@@ -127,7 +120,7 @@ fn record_from(w: u64, v: u64) {
     print::word(b"dirty", records::set_dirty(w, p.dirty));
     print::word(b"cached", records::set_cached(w, p.cached));
     print::word(b"stamp", records::set_stamp(w, p.stamp));
-    print::word(b"epoch", records::set_epoch(w, p.epoch));
+    print::word(b"epoch", records::set_migrated(w, p.migrated));
     print::end();
 }
 

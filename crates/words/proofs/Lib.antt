@@ -1,6 +1,7 @@
 pub mod Runs
+pub mod RunCode
 pub mod Words
 pub mod EntryLaws
 pub mod InfoLaws
-pub mod RecordLaws
 pub mod ClassLaws
+pub mod Promises

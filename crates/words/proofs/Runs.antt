@@ -1,23 +1,26 @@
 -- A word is its runs, lowest first, and a list of widths says where they lie. Each law is stated once, over any such list or over any place and width;
 -- a word's own laws cite it. The proofs go by digits: the lowest run is a remainder, and the others are the runs of the quotient.
-use mathlib.Core.Path.{_≡_, refl, sym, ap, ap₂, _∙_, subst, subst₂}
+use mathlib.Core.Path.{_≡_, refl, sym, ap, ap₂, _∙_, subst}
 use mathlib.Core.Bool.{Bool, true, false}
 use mathlib.Core.List.{List, [], _∷_}
 use Prim.Native.Nat.{ℕ, zero, suc, _+_, _-_, _*_, _/_, _%_, _^_, _<_, _≤_}
 use native.Mathlib.Nat.{add-comm, add-assoc, add-zero, add-mul, mul-assoc, mul-comm, mul-one, zero-mul, div-one, mod-lt, mod-eq-of-lt, le-of-suc-le-suc, not-suc-le-zero}
 use native.Mathlib.Omega.{arith}
 use lib.Arith.{digits-lt, lt-one}
-use lib.Bits.{bitAnd, bitOr, and-block, and-mask, and-zero-r, or-block, or-shifted, or-shifted-r, or-zero-r}
+use lib.Bits.{bitAnd, bitOr, and-block, and-mask, and-zero-r, or-block, or-shifted, or-zero-r}
 use lib.Dec.{eqb, lit<}
-use lib.ListN.{getD, length, set}
-use lib.Pow.{high, low, ones-lt, pow-add, pow-pos, shl-exact, shr-lt, shr-shr}
+use lib.ListN.{drop, getD, length, set}
+use lib.Pow.{high, ones-lt, pow-add, pow-pos, mod-pow-add, shr-lt, shr-shr}
 use lib.Pow as Pow
-use Rattle.words.specs.Runs.{run, bit}
+use Rattle.words.specs.Runs.{bits, low, bit}
 
 -- ---- one run
 
-pub run-lt : (w hi lo : ℕ) → run w hi lo < 2 ^ (hi + 1 - lo)
-run-lt w hi lo = mod-lt (w / 2 ^ lo) (pow-pos (hi + 1 - lo))
+pub bits-lt : (w hi lo : ℕ) → bits w hi lo < 2 ^ (hi + 1 - lo)
+bits-lt w hi lo = mod-lt (w / 2 ^ lo) (pow-pos (hi + 1 - lo))
+
+pub low-lt : (k v : ℕ) → low k v < 2 ^ k
+low-lt k v = mod-lt v (pow-pos k)
 
 -- ---- a flag is a run of one bit
 
@@ -28,6 +31,9 @@ bit-lt true = lit< tt
 pub flag-bit : (b : Bool) → eqb (bit b) 1 ≡ b
 flag-bit false = refl
 flag-bit true = refl
+
+pub bit-low : (b : Bool) → bit b ≡ low 1 (bit b)
+bit-low b = sym (mod-eq-of-lt (bit-lt b))
 
 pub bit-flag : (n : ℕ) → n < 2 → bit (eqb n 1) ≡ n
 bit-flag zero h = refl
@@ -51,6 +57,23 @@ Fit [] [] = Unit
 Fit [] (x ∷ xs) = ⊥
 Fit (k ∷ ks) [] = ⊥
 Fit (k ∷ ks) (x ∷ xs) = (x < 2 ^ k) × Fit ks xs
+
+-- each number's low bits
+abbrev pub lows : List ℕ → List ℕ → List ℕ
+lows [] xs = []
+lows (k ∷ ks) [] = 0 ∷ lows ks []
+lows (k ∷ ks) (x ∷ xs) = low k x ∷ lows ks xs
+
+pub lows-fit : (ks xs : List ℕ) → Fit ks (lows ks xs)
+lows-fit [] xs = tt
+lows-fit (k ∷ ks) [] = (pow-pos k, lows-fit ks [])
+lows-fit (k ∷ ks) (x ∷ xs) = (low-lt k x, lows-fit ks xs)
+
+pub lows-same : (ks xs : List ℕ) → Fit ks xs → lows ks xs ≡ xs
+lows-same [] [] f = refl
+lows-same [] (x ∷ xs) f = absurd f
+lows-same (k ∷ ks) [] f = absurd f
+lows-same (k ∷ ks) (x ∷ xs) f = ap₂ (λ (y : ℕ) (ys : List ℕ). y ∷ ys) (mod-eq-of-lt (f .0)) (lows-same ks xs (f .1))
 
 abbrev pub total : List ℕ → ℕ
 total [] = 0
@@ -96,20 +119,6 @@ whole-digits ks w = split-digits 0 ks w ∙ ap (digits ks) (div-one w)
 whole-number : (ks xs : List ℕ) → join 0 ks xs ≡ number ks xs
 whole-number ks xs = join-number 0 ks xs ∙ mul-one (number ks xs)
 
--- ---- what a reader computes: each run shifted down and masked
-
-abbrev pub masks : ℕ → List ℕ → ℕ → List ℕ
-masks lo [] w = []
-masks lo (k ∷ ks) w = bitAnd (w / 2 ^ lo) (2 ^ k - 1) ∷ masks (lo + k) ks w
-
-pub masks-split : (lo : ℕ) (ks : List ℕ) (w : ℕ) → masks lo ks w ≡ split lo ks w
-masks-split lo [] w = refl
-masks-split lo (k ∷ ks) w = ap₂ (λ (x : ℕ) (xs : List ℕ). x ∷ xs) (and-mask (w / 2 ^ lo) k) (masks-split (lo + k) ks w)
-
--- the lowest run needs no shift
-pub low-mask : (k w : ℕ) → bitAnd w (2 ^ k - 1) ≡ w / 2 ^ 0 % 2 ^ k
-low-mask k w = and-mask w k ∙ ap (λ (m : ℕ). m % 2 ^ k) (sym (div-one w))
-
 -- ---- splitting and joining are inverse
 
 digits-number : (ks xs : List ℕ) → Fit ks xs → digits ks (number ks xs) ≡ xs
@@ -118,7 +127,7 @@ digits-number [] [] f = refl
 digits-number [] (x ∷ xs) f = absurd f
 digits-number (k ∷ ks) [] f = absurd f
 digits-number (k ∷ ks) (x ∷ xs) f =
-    ap₂ (λ (a : ℕ) (l : List ℕ). a ∷ l) (low (number ks xs) k (f .0)) (ap (digits ks) (high (number ks xs) k (f .0)) ∙ digits-number ks xs (f .1))
+    ap₂ (λ (a : ℕ) (l : List ℕ). a ∷ l) (Pow.low (number ks xs) k (f .0)) (ap (digits ks) (high (number ks xs) k (f .0)) ∙ digits-number ks xs (f .1))
 
 number-digits : (ks : List ℕ) (w : ℕ) → w < 2 ^ total ks → number ks (digits ks w) ≡ w
 unfolding digits number
@@ -179,26 +188,7 @@ pub and-join : (ks : List ℕ) (bs : List Bool) (w : ℕ) → bitAnd w (join 0 k
 and-join ks bs w =
     and-number ks bs w ∙ ap (λ (l : List ℕ). number ks (kept bs l)) (sym (whole-digits ks w)) ∙ sym (whole-number ks (kept bs (split 0 ks w)))
 
--- ---- what a writer computes: the runs from bit lo on, each shifted to its place and joined to what stands below
-
-abbrev pub orAll : ℕ → ℕ → List ℕ → List ℕ → ℕ
-orAll a lo [] xs = a
-orAll a lo (k ∷ ks) [] = a
-orAll a lo (k ∷ ks) (x ∷ xs) = orAll (bitOr a ((x * 2 ^ lo) % 2 ^ 64)) (lo + k) ks xs
-
-pub or-join : (a lo : ℕ) (ks xs : List ℕ) → a < 2 ^ lo → lo + total ks ≤ 64 → Fit ks xs → orAll a lo ks xs ≡ a + join lo ks xs
-or-join a lo [] xs h l f = sym (add-zero a)
-or-join a lo (k ∷ ks) [] h l f = absurd f
-or-join a lo (k ∷ ks) (x ∷ xs) h l f =
-    let e : bitOr a ((x * 2 ^ lo) % 2 ^ 64) ≡ a + x * 2 ^ lo =
-    ap (bitOr a) (shl-exact k lo 64 (f .0) (omega arith)) ∙ or-shifted-r x lo a h ∙ add-comm (x * 2 ^ lo) a in
-    let b : a + x * 2 ^ lo < 2 ^ (lo + k) =
-    subst₂ (λ (m n : ℕ). m < n) (add-comm (x * 2 ^ lo) a) (mul-comm (2 ^ k) (2 ^ lo) ∙ sym (pow-add 2 lo k)) (digits-lt (f .0) h) in
-    ap (λ (m : ℕ). orAll m (lo + k) ks xs) e
-    ∙ or-join (a + x * 2 ^ lo) (lo + k) ks xs b (omega arith) (f .1)
-    ∙ add-assoc a (x * 2 ^ lo) (join (lo + k) ks xs)
-
--- ---- what a setter computes: one run cleared, and a number put there
+-- ---- one run cleared, and a number put there
 
 abbrev every : List ℕ → List Bool
 every [] = []
@@ -250,31 +240,59 @@ number-or (k ∷ ks) (x ∷ xs) (suc i) {v} f l h =
     ∙ or-block k (number ks (set xs i 0)) (v * 2 ^ place ks i) x 0 (f .0) (pow-pos k)
     ∙ ap₂ (λ (m n : ℕ). m * 2 ^ k + n) (number-or ks xs i (f .1) (le-of-suc-le-suc l) h) (or-zero-r x)
 
-place-fits : (ks : List ℕ) (i : ℕ) → i < length ks → getD ks i 0 + place ks i ≤ total ks
+pub place-fits : (ks : List ℕ) (i : ℕ) → i < length ks → getD ks i 0 + place ks i ≤ total ks
 place-fits [] i l = absurd (not-suc-le-zero l)
 place-fits (k ∷ ks) zero l = omega arith
 place-fits (k ∷ ks) (suc i) l = omega (arith, place-fits ks i (le-of-suc-le-suc l))
 
-module _ (ks : List ℕ) (i w : ℕ) {v : ℕ} (l : i < length ks) (h : v < 2 ^ getD ks i 0) where
-  put-split : split 0 ks (bitOr (bitAnd w (join 0 ks (ones ks (but ks i)))) (v * 2 ^ place ks i)) ≡ set (split 0 ks w) i v
-  put-split =
-      whole-digits ks (bitOr (bitAnd w (join 0 ks (ones ks (but ks i)))) (v * 2 ^ place ks i))
-      ∙ ap (λ (m : ℕ). digits ks (bitOr m (v * 2 ^ place ks i)))
-      (and-number ks (but ks i) w ∙ ap (number ks) (kept-but ks (digits ks w) i (digits-fit ks w)))
-      ∙ ap (digits ks) (number-or ks (digits ks w) i (digits-fit ks w) l h)
-      ∙ digits-number ks (set (digits ks w) i v) (set-fit ks (digits ks w) i (digits-fit ks w) h)
-      ∙ ap (λ (xs : List ℕ). set xs i v) (sym (whole-digits ks w))
+pub put-split : (ks : List ℕ) (i w : ℕ) {v : ℕ} → i < length ks → v < 2 ^ getD ks i 0
+    → split 0 ks (bitOr (bitAnd w (join 0 ks (ones ks (but ks i)))) (v * 2 ^ place ks i)) ≡ set (split 0 ks w) i v
+put-split ks i w {v} l h =
+    whole-digits ks (bitOr (bitAnd w (join 0 ks (ones ks (but ks i)))) (v * 2 ^ place ks i))
+    ∙ ap (λ (m : ℕ). digits ks (bitOr m (v * 2 ^ place ks i)))
+    (and-number ks (but ks i) w ∙ ap (number ks) (kept-but ks (digits ks w) i (digits-fit ks w)))
+    ∙ ap (digits ks) (number-or ks (digits ks w) i (digits-fit ks w) l h)
+    ∙ digits-number ks (set (digits ks w) i v) (set-fit ks (digits ks w) i (digits-fit ks w) h)
+    ∙ ap (λ (xs : List ℕ). set xs i v) (sym (whole-digits ks w))
 
-  -- the i-th run, shifted to its place
-  pub set-split : total ks ≤ 64 → split 0 ks (bitOr (bitAnd w (join 0 ks (ones ks (but ks i)))) ((v * 2 ^ place ks i) % 2 ^ 64)) ≡ set (split 0 ks w) i v
-  set-split t =
-      ap (λ (m : ℕ). split 0 ks (bitOr (bitAnd w (join 0 ks (ones ks (but ks i)))) m))
-      (shl-exact (getD ks i 0) (place ks i) 64 h (omega (arith, place-fits ks i l)))
-      ∙ put-split
+-- ---- two words whose runs are the same but one differ in that run's bits alone
 
--- the lowest run, which needs no shift
-pub set-lowest : (k : ℕ) (ks : List ℕ) (w : ℕ) {v : ℕ} → v < 2 ^ k
-    → split 0 (k ∷ ks) (bitOr (bitAnd w (join 0 (k ∷ ks) (ones (k ∷ ks) (but (k ∷ ks) 0)))) v) ≡ set (split 0 (k ∷ ks) w) 0 v
-set-lowest k ks w {v} h =
-    ap (λ (m : ℕ). split 0 (k ∷ ks) (bitOr (bitAnd w (join 0 (k ∷ ks) (ones (k ∷ ks) (but (k ∷ ks) 0)))) m)) (sym (mul-one v))
-    ∙ put-split (k ∷ ks) 0 w (omega arith) h
+pub record RunAlone (v w lo width x : ℕ) : Type 0 where
+  pub run : v / 2 ^ lo % 2 ^ width ≡ x
+  pub above : v / 2 ^ (width + lo) ≡ w / 2 ^ (width + lo)
+  pub below : v % 2 ^ lo ≡ w % 2 ^ lo
+
+digits-alone : (ks : List ℕ) (i : ℕ) {v w x : ℕ} → i < length ks → v < 2 ^ total ks → w < 2 ^ total ks → digits ks v ≡ set (digits ks w) i x
+    → RunAlone v w (place ks i) (getD ks i 0) x
+unfolding digits
+digits-alone [] i l hv hw e = absurd (not-suc-le-zero l)
+digits-alone (k ∷ ks) zero {v} {w} l hv hw e =
+    record {
+      run = ap (λ (m : ℕ). m % 2 ^ k) (div-one v) ∙ ap (λ (xs : List ℕ). getD xs 0 0) e;
+      above = rw (add-zero k)
+          (sym (number-digits ks (v / 2 ^ k) (shr-lt (total ks) k hv))
+          ∙ ap (λ (xs : List ℕ). number ks (drop 1 xs)) e
+          ∙ number-digits ks (w / 2 ^ k) (shr-lt (total ks) k hw));
+      below = lt-one (mod-lt v (pow-pos 0)) ∙ sym (lt-one (mod-lt w (pow-pos 0)));
+    }
+digits-alone (k ∷ ks) (suc i) {v} {w} {x} l hv hw e =
+    let rest : RunAlone (v / 2 ^ k) (w / 2 ^ k) (place ks i) (getD ks i 0) x =
+    digits-alone ks i (le-of-suc-le-suc l) (shr-lt (total ks) k hv) (shr-lt (total ks) k hw) (ap (λ (xs : List ℕ). drop 1 xs) e) in
+    record {
+      run = ap (λ (m : ℕ). m % 2 ^ getD ks i 0) (past v (place ks i)) ∙ rest .run;
+      above = further v ∙ rest .above ∙ sym (further w);
+      below = mod-pow-add v (place ks i) k
+          ∙ ap₂ (λ (m n : ℕ). m * 2 ^ k + n) (rest .below) (ap (λ (xs : List ℕ). getD xs 0 0) e)
+          ∙ sym (mod-pow-add w (place ks i) k);
+    }
+  where
+    past : (n m : ℕ) → n / 2 ^ (m + k) ≡ n / 2 ^ k / 2 ^ m
+    past n m = ap (λ (j : ℕ). n / 2 ^ j) (add-comm m k) ∙ sym (shr-shr n k m)
+
+    further : (n : ℕ) → n / 2 ^ (getD ks i 0 + (place ks i + k)) ≡ n / 2 ^ k / 2 ^ (getD ks i 0 + place ks i)
+    further n = ap (λ (j : ℕ). n / 2 ^ j) (sym (add-assoc (getD ks i 0) (place ks i) k)) ∙ past n (getD ks i 0 + place ks i)
+
+pub run-alone : (ks : List ℕ) (i : ℕ) {v w x : ℕ} → i < length ks → v < 2 ^ total ks → w < 2 ^ total ks → split 0 ks v ≡ set (split 0 ks w) i x
+    → RunAlone v w (place ks i) (getD ks i 0) x
+run-alone ks i {v} {w} {x} l hv hw e =
+    digits-alone ks i l hv hw (sym (whole-digits ks v) ∙ e ∙ ap (λ (xs : List ℕ). set xs i x) (whole-digits ks w))

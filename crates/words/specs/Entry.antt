@@ -1,38 +1,39 @@
 -- A GPA list entry, its eleven runs lowest first.
 use mathlib.Core.Bool.{Bool}
 use Prim.Native.Nat.{ℕ, _+_, _*_, _^_, _<_}
-use Rattle.words.specs.Runs.{run, flag, bit}
+use Rattle.words.specs.Runs.{bits, low, flag, bit}
 use Rattle.words.specs.declared.entries.Entry.{Entry}
 
 unfoldable pub entryOf : ℕ → Entry
 entryOf w =
     record {
-      level = run w 1 0;
+      level = bits w 1 0;
       pending = flag w 2;
-      state = run w 4 3;
-      reserved5 = run w 6 5;
-      «l2_map» = run w 9 7;
-      «mig_type» = run w 11 10;
-      gpa = run w 51 12;
-      operation = run w 53 52;
-      reserved54 = run w 55 54;
-      status = run w 60 56;
-      reserved61 = run w 63 61;
+      state = bits w 4 3;
+      reserved5 = bits w 6 5;
+      «l2_map» = bits w 9 7;
+      «mig_type» = bits w 11 10;
+      gpa = bits w 51 12;
+      operation = bits w 53 52;
+      reserved54 = bits w 55 54;
+      status = bits w 60 56;
+      reserved61 = bits w 63 61;
     }
 
+-- of any entry the word holds each field's low bits
 unfoldable pub entryWord : Entry → ℕ
 entryWord e =
-    e .level
+    low 2 (e .level)
     + bit (e .pending) * 2 ^ 2
-    + e .state * 2 ^ 3
-    + e .reserved5 * 2 ^ 5
-    + e .«l2_map» * 2 ^ 7
-    + e .«mig_type» * 2 ^ 10
-    + e .gpa * 2 ^ 12
-    + e .operation * 2 ^ 52
-    + e .reserved54 * 2 ^ 54
-    + e .status * 2 ^ 56
-    + e .reserved61 * 2 ^ 61
+    + low 2 (e .state) * 2 ^ 3
+    + low 2 (e .reserved5) * 2 ^ 5
+    + low 3 (e .«l2_map») * 2 ^ 7
+    + low 2 (e .«mig_type») * 2 ^ 10
+    + low 40 (e .gpa) * 2 ^ 12
+    + low 2 (e .operation) * 2 ^ 52
+    + low 2 (e .reserved54) * 2 ^ 54
+    + low 5 (e .status) * 2 ^ 56
+    + low 3 (e .reserved61) * 2 ^ 61
 
 -- each number fits its run
 pub record EntryFits (e : Entry) : Type 0 where
@@ -63,6 +64,11 @@ entry level pending state reserved5 l2Map migType gpa operation reserved54 statu
       status = status;
       reserved61 = reserved61;
     }
+
+-- the entry with each field's low bits
+abbrev pub loweredEntry : Entry → Entry
+loweredEntry e =
+    entry (low 2 (e .level)) (e .pending) (low 2 (e .state)) (low 2 (e .reserved5)) (low 3 (e .«l2_map»)) (low 2 (e .«mig_type»)) (low 40 (e .gpa)) (low 2 (e .operation)) (low 2 (e .reserved54)) (low 5 (e .status)) (low 3 (e .reserved61))
 
 -- the entry with another value in one field, and the rest as it was
 abbrev pub withLevel : Entry → ℕ → Entry

@@ -1,13 +1,19 @@
 -- The info word of a GPA list, its five runs lowest first.
 use Prim.Native.Nat.{ℕ, _+_, _*_, _^_, _<_}
-use Rattle.words.specs.Runs.{run}
+use Rattle.words.specs.Runs.{bits, low}
 use Rattle.words.specs.declared.infos.Info.{Info}
 
 unfoldable pub infoOf : ℕ → Info
-infoOf w = record { format = run w 2 0; first = run w 11 3; hpa = run w 51 12; zero52 = run w 54 52; last = run w 63 55 }
+infoOf w = record { format = bits w 2 0; first = bits w 11 3; hpa = bits w 51 12; zero52 = bits w 54 52; last = bits w 63 55 }
 
+-- of any info the word holds each field's low bits
 unfoldable pub infoWord : Info → ℕ
-infoWord x = x .format + x .first * 2 ^ 3 + x .hpa * 2 ^ 12 + x .zero52 * 2 ^ 52 + x .last * 2 ^ 55
+infoWord x = low 3 (x .format) + low 9 (x .first) * 2 ^ 3 + low 40 (x .hpa) * 2 ^ 12 + low 3 (x .zero52) * 2 ^ 52 + low 9 (x .last) * 2 ^ 55
+
+-- the info with each field's low bits
+abbrev pub loweredInfo : Info → Info
+loweredInfo x =
+    record { format = low 3 (x .format); first = low 9 (x .first); hpa = low 40 (x .hpa); zero52 = low 3 (x .zero52); last = low 9 (x .last) }
 
 -- each number fits its run
 pub record InfoFits (x : Info) : Type 0 where

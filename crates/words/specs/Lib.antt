@@ -1,5 +1,4 @@
 pub mod Runs
-pub mod Record
 pub mod States
 pub mod Class
 pub mod Codes
@@ -8,3 +7,4 @@ pub mod Info
 pub mod Hints
 pub mod Operations
 pub mod Statuses
+pub mod Promises

@@ -1,6 +1,6 @@
 // A GPA list entry (000, table 1.10): eleven runs that fill the word.
 ghost use mathlib.Core.Path.{_≡_};
-ghost use Prim.Native.Nat.{_<_, _^_};
+ghost use Rattle.words.specs.Runs.{low};
 ghost use Rattle.words.specs.Entry.{entryOf, entryWord, EntryFits};
 ghost use Rattle.words.specs.Entry.{withLevel, withPending, withState, withL2Map, withMigType, withGpa, withOperation, withStatus};
 
@@ -39,31 +39,29 @@ pub fn entry_of(w: u64) -> Entry
     }
 }
 
-// The word whose runs these are.
+// The word whose runs these are: each number's low bits.
 pub fn entry_word(e: Entry) -> u64
-    requires { ⌜ EntryFits e ⌝ }
     ensures { λ r. ⌜ r ≡ entryWord e ⌝ }
 {
-    e.level
+    (e.level & 0x3)
         | ((e.pending as u64) << 2)
-        | (e.state << 3)
-        | (e.reserved5 << 5)
-        | (e.l2_map << 7)
-        | (e.mig_type << 10)
-        | (e.gpa << 12)
-        | (e.operation << 52)
-        | (e.reserved54 << 54)
-        | (e.status << 56)
-        | (e.reserved61 << 61)
+        | ((e.state & 0x3) << 3)
+        | ((e.reserved5 & 0x3) << 5)
+        | ((e.l2_map & 0x7) << 7)
+        | ((e.mig_type & 0x3) << 10)
+        | ((e.gpa & 0xff_ffff_ffff) << 12)
+        | ((e.operation & 0x3) << 52)
+        | ((e.reserved54 & 0x3) << 54)
+        | ((e.status & 0x1f) << 56)
+        | ((e.reserved61 & 0x7) << 61)
 }
 
-// Each setter gives the word with another value in its field, and every other bit as it was.
+// Each setter gives the word with another value in its field, a number's low bits, and every other bit as it was.
 
 pub fn set_level(w: u64, v: u64) -> u64
-    requires { ⌜ v < 2 ^ 2 ⌝ }
-    ensures { λ r. ⌜ entryOf r ≡ withLevel (entryOf w) v ⌝ }
+    ensures { λ r. ⌜ entryOf r ≡ withLevel (entryOf w) (low 2 v) ⌝ }
 {
-    (w & !0x3) | v
+    (w & !0x3) | (v & 0x3)
 }
 
 pub fn set_pending(w: u64, v: bool) -> u64
@@ -73,43 +71,37 @@ pub fn set_pending(w: u64, v: bool) -> u64
 }
 
 pub fn set_state(w: u64, v: u64) -> u64
-    requires { ⌜ v < 2 ^ 2 ⌝ }
-    ensures { λ r. ⌜ entryOf r ≡ withState (entryOf w) v ⌝ }
+    ensures { λ r. ⌜ entryOf r ≡ withState (entryOf w) (low 2 v) ⌝ }
 {
-    (w & !(0x3 << 3)) | (v << 3)
+    (w & !(0x3 << 3)) | ((v & 0x3) << 3)
 }
 
 pub fn set_l2_map(w: u64, v: u64) -> u64
-    requires { ⌜ v < 2 ^ 3 ⌝ }
-    ensures { λ r. ⌜ entryOf r ≡ withL2Map (entryOf w) v ⌝ }
+    ensures { λ r. ⌜ entryOf r ≡ withL2Map (entryOf w) (low 3 v) ⌝ }
 {
-    (w & !(0x7 << 7)) | (v << 7)
+    (w & !(0x7 << 7)) | ((v & 0x7) << 7)
 }
 
 pub fn set_mig_type(w: u64, v: u64) -> u64
-    requires { ⌜ v < 2 ^ 2 ⌝ }
-    ensures { λ r. ⌜ entryOf r ≡ withMigType (entryOf w) v ⌝ }
+    ensures { λ r. ⌜ entryOf r ≡ withMigType (entryOf w) (low 2 v) ⌝ }
 {
-    (w & !(0x3 << 10)) | (v << 10)
+    (w & !(0x3 << 10)) | ((v & 0x3) << 10)
 }
 
 pub fn set_gpa(w: u64, v: u64) -> u64
-    requires { ⌜ v < 2 ^ 40 ⌝ }
-    ensures { λ r. ⌜ entryOf r ≡ withGpa (entryOf w) v ⌝ }
+    ensures { λ r. ⌜ entryOf r ≡ withGpa (entryOf w) (low 40 v) ⌝ }
 {
-    (w & !(0xff_ffff_ffff << 12)) | (v << 12)
+    (w & !(0xff_ffff_ffff << 12)) | ((v & 0xff_ffff_ffff) << 12)
 }
 
 pub fn set_operation(w: u64, v: u64) -> u64
-    requires { ⌜ v < 2 ^ 2 ⌝ }
-    ensures { λ r. ⌜ entryOf r ≡ withOperation (entryOf w) v ⌝ }
+    ensures { λ r. ⌜ entryOf r ≡ withOperation (entryOf w) (low 2 v) ⌝ }
 {
-    (w & !(0x3 << 52)) | (v << 52)
+    (w & !(0x3 << 52)) | ((v & 0x3) << 52)
 }
 
 pub fn set_status(w: u64, v: u64) -> u64
-    requires { ⌜ v < 2 ^ 5 ⌝ }
-    ensures { λ r. ⌜ entryOf r ≡ withStatus (entryOf w) v ⌝ }
+    ensures { λ r. ⌜ entryOf r ≡ withStatus (entryOf w) (low 5 v) ⌝ }
 {
-    (w & !(0x1f << 56)) | (v << 56)
+    (w & !(0x1f << 56)) | ((v & 0x1f) << 56)
 }

@@ -1,9 +1,8 @@
-// The bits of every word of the bench, promised once and for all: what stands above this crate reads and writes records, and sees no bit.
+// The list words of the bench, promised once and for all: what stands above this crate reads and writes structs, and sees no bit of an entry or an info. (Word
+// 0 of a page's record is the crate `records`, by the same laws.)
 //
 // A state number is a byte. Every other field that is no flag is a u64, so that nobody above casts it before comparing it with a session's number.
 
-// Word 0 of a page record.
-pub mod records;
 // The class of a Secure EPT state number.
 pub mod classes;
 // A GPA list entry.

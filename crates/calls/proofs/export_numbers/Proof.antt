@@ -7,7 +7,4 @@ returns : tie.Need-returns
 returns c = refl
 
 pub export-numbers-spec : {M : Type 1} → statement M
-export-numbers-spec =
-    tie.close
-    (tie.spec
-    returns)
+export-numbers-spec = tie.close (tie.spec returns)

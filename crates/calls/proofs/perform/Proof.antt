@@ -1,7 +1,7 @@
 -- Each arm is its clause of the definition, by the contract of the call that it makes.
 use borrow.Author.Needs.{needs}
 use mathlib.Core.Path.{refl, sym, ap, _∙_}
-use Rattle.migration.proofs.Laws.{new-epoch-table, reset-table}
+use Rattle.migration.proofs.Laws.{new-epoch-table, new-epoch-answer, reset-table, reset-answer}
 use Rattle.calls.specs.Calls.{withoutNumbers, scanNumbers, exportNumbers}
 use Rattle.calls.proofs.perform.Statement.{statement}
 use Rattle.calls.proofs.perform.Tie as tie
@@ -256,10 +256,10 @@ returns-11 c =
     rw (at-enum-told4 .enum-told4 .given .1) (c .without-numbers11 .ensures ∙ ap withoutNumbers (at-abort .abort .ensures .0), (at-abort .abort .ensures .1, (refl, refl)))
 
 returns-12 : tie.Need-returns-12
-returns-12 c = rw (c .before .before .enum-told5 .given .1) (c .without-numbers12 .ensures ∙ ap withoutNumbers (c .before .new-epoch .ensures _ refl), (sym (new-epoch-table _ _), (refl, refl)))
+returns-12 c = rw (c .before .before .enum-told5 .given .1) (c .without-numbers12 .ensures ∙ ap withoutNumbers (c .before .new-epoch .ensures ∙ new-epoch-answer _ _ _ refl), (sym (new-epoch-table _ _), (refl, refl)))
 
 returns-13 : tie.Need-returns-13
-returns-13 c = rw (c .before .before .enum-told6 .given .1) (c .without-numbers13 .ensures ∙ ap withoutNumbers (c .before .reset .ensures _ refl), (sym (reset-table _ _), (refl, refl)))
+returns-13 c = rw (c .before .before .enum-told6 .given .1) (c .without-numbers13 .ensures ∙ ap withoutNumbers (c .before .reset .ensures ∙ reset-answer _ _ _ refl), (sym (reset-table _ _), (refl, refl)))
 
 same-length-12 : tie.Need-same-length-12
 same-length-12 c = search needs

@@ -7,7 +7,4 @@ returns : tie.Need-returns
 returns c = refl
 
 pub scan-numbers-spec : {M : Type 1} → statement M
-scan-numbers-spec =
-    tie.close
-    (tie.spec
-    returns)
+scan-numbers-spec = tie.close (tie.spec returns)

@@ -16,10 +16,4 @@ returns : tie.Need-returns
 returns c = rw (← c .before .before .before .start-token .ensures .0, ← c .before .number-of .ensures, ← c .page-of .ensures)
 
 pub start-token-spec : {M : Type 1} → statement M
-start-token-spec =
-    tie.close
-    (tie.spec
-    start-token-requires
-    number-of-requires
-    page-of-requires
-    returns)
+start-token-spec = tie.close (tie.spec start-token-requires number-of-requires page-of-requires returns)

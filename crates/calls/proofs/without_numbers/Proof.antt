@@ -7,7 +7,4 @@ returns : tie.Need-returns
 returns c = refl
 
 pub without-numbers-spec : {M : Type 1} → statement M
-without-numbers-spec =
-    tie.close
-    (tie.spec
-    returns)
+without-numbers-spec = tie.close (tie.spec returns)

@@ -1,12 +1,13 @@
 -- What is left is what `with_list` leaves; the answer is its numbers, as a scan has them.
 use borrow.Author.Needs.{needs}
+use Rattle.chirpsteeple.proofs.ListLaws.{dscan-comes}
 use Rattle.chirpsteeple.specs.Host.{scanAnswer}
 use mathlib.Core.Path.{ap, _∙_}
 use Rattle.chirpsteeple.proofs.chirp_dscan.Statement.{statement}
 use Rattle.chirpsteeple.proofs.chirp_dscan.Tie as tie
 
 with-list-requires : tie.Need-with-list-requires
-with-list-requires c κs = search needs
+with-list-requires c κs = dscan-comes _ _ _
 
 scan-answer-requires : tie.Need-scan-answer-requires
 scan-answer-requires c κs = search needs
@@ -26,12 +27,4 @@ returns c =
     (c .scan-answer .ensures ∙ ap scanAnswer (w .0), w .1)
 
 pub chirp-dscan-spec : {M : Type 1} → statement M
-chirp-dscan-spec =
-    tie.close
-    (tie.spec
-    with-list-requires
-    scan-answer-requires
-    same-length
-    same-length-2
-    same-length-3
-    returns)
+chirp-dscan-spec = tie.close (tie.spec with-list-requires scan-answer-requires same-length same-length-2 same-length-3 returns)

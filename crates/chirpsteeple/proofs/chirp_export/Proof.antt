@@ -1,12 +1,13 @@
 -- What is left is what `with_lists` leaves; the answer is its numbers, as an export has them.
 use borrow.Author.Needs.{needs}
+use Rattle.chirpsteeple.proofs.ListLaws.{export-comes}
 use Rattle.chirpsteeple.specs.Host.{exportAnswer}
 use mathlib.Core.Path.{ap}
 use Rattle.chirpsteeple.proofs.chirp_export.Statement.{statement}
 use Rattle.chirpsteeple.proofs.chirp_export.Tie as tie
 
 with-lists-requires : tie.Need-with-lists-requires
-with-lists-requires c κs = search needs
+with-lists-requires c κs = export-comes _ _ _ _
 
 same-length : tie.Need-same-length
 same-length c = search needs
@@ -26,12 +27,4 @@ returns c =
     (ap exportAnswer (w .0), w .1)
 
 pub chirp-export-spec : {M : Type 1} → statement M
-chirp-export-spec =
-    tie.close
-    (tie.spec
-    with-lists-requires
-    same-length
-    same-length-2
-    same-length-3
-    same-length-4
-    returns)
+chirp-export-spec = tie.close (tie.spec with-lists-requires same-length same-length-2 same-length-3 same-length-4 returns)

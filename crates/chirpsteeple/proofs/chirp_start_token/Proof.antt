@@ -17,9 +17,4 @@ returns c =
     (ap tokenAnswer (e .0), e .1)
 
 pub chirp-start-token-spec : {M : Type 1} → statement M
-chirp-start-token-spec =
-    tie.close
-    (tie.spec
-    start-token-requires
-    same-length
-    returns)
+chirp-start-token-spec = tie.close (tie.spec start-token-requires same-length returns)

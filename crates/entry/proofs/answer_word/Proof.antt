@@ -1,4 +1,4 @@
--- The fields that are not kept fit their runs.
+-- The entry is written with the fields that are told.
 use borrow.Author.Needs.{needs}
 use Rattle.entry.specs.Entry.{answerWord}
 use Rattle.entry.proofs.answer_word.Statement.{statement}
@@ -9,11 +9,7 @@ entry-word-requires c κs = search needs
 
 returns : tie.Need-returns
 unfolding answerWord
-returns c = search needs
+returns c = c .entry-word .ensures
 
 pub answer-word-spec : {M : Type 1} → statement M
-answer-word-spec =
-    tie.close
-    (tie.spec
-    entry-word-requires
-    returns)
+answer-word-spec = tie.close (tie.spec entry-word-requires returns)

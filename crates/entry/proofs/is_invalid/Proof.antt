@@ -9,7 +9,4 @@ unfolding invalid
 returns c = search needs
 
 pub is-invalid-spec : {M : Type 1} → statement M
-is-invalid-spec =
-    tie.close
-    (tie.spec
-    returns)
+is-invalid-spec = tie.close (tie.spec returns)

@@ -8,7 +8,8 @@ use Rattle.words.specs.Operations as operations
 use Rattle.words.specs.Statuses as statuses
 use Rattle.refusals.specs.Refusals.{Test, _gives_, firstOf}
 use Rattle.refusals.proofs.Laws.{reached, passed-code}
-use Rattle.states.specs.declared.lists.Listing.{Listing}
+use Rattle.page.specs.Page.{pageOf}
+use Rattle.page.proofs.Laws.{read-fields}
 use Rattle.session.specs.declared.Comes.{Comes}
 use Rattle.entry.specs.Entry.{statusOf}
 use Rattle.entry.proofs.status_of.Statement.{statement}
@@ -20,11 +21,14 @@ at-able c = c .before .before .before .before
 abbrev at-invalid : tie.After-struct-known7 → tie.After-is-invalid
 at-invalid c = at-able c .before .before .before .before
 
-abbrev at-listing : tie.After-struct-known7 → tie.After-listing-of
-at-listing c = at-invalid c .before .before .before
+abbrev at-cancelled : tie.After-struct-known7 → tie.After-is-cancelled
+at-cancelled c = at-invalid c .before .before .before
+
+abbrev at-record : tie.After-struct-known7 → tie.After-record-of
+at-record c = at-cancelled c .before .before
 
 abbrev start : tie.After-struct-known7 → tie.Start
-start c = at-listing c .before
+start c = at-record c .before
 
 -- the tests, as the code made them
 abbrev tests : tie.After-struct-known7 → List Test
@@ -33,19 +37,26 @@ tests c =
     ∷ eqb (start c .args .e .operation) operations.nop gives statuses.skipped
     ∷ leb (start c .args .g .pages) (start c .args .e .gpa) gives statuses.septWalkFailed
     ∷ at-able c .is-unexportable .result gives statuses.septEntryStateIncorrect
-    ∷ eqb (start c .args .p .epoch) (start c .args .g .epoch) gives statuses.migratedInCurrentEpoch
-    ∷ (not (at-listing c .listing-of .result .cancelled) && start c .args .p .dirty) gives statuses.pageDirty
-    ∷ (not (at-listing c .listing-of .result .cancelled) && at-invalid c .before .before .comes-in .result .live && not (at-invalid c .before .is-tracked .result)) gives statuses.tlbTrackingNotDone
+    ∷ eqb (at-record c .record-of .result .migrated) (start c .args .g .epoch) gives statuses.migratedInCurrentEpoch
+    ∷ (not (at-cancelled c .is-cancelled .result) && at-record c .record-of .result .dirty) gives statuses.pageDirty
+    ∷ (not (at-cancelled c .is-cancelled .result) && at-invalid c .before .before .comes-in .result .live && not (at-invalid c .before .is-tracked .result)) gives statuses.tlbTrackingNotDone
     ∷ []
 
-tested : (c : tie.After-struct-known7) → statusOf (start c .args .e) (start c .args .p) (start c .args .g) ≡ firstOf (tests c)
+tested : (c : tie.After-struct-known7) → statusOf (start c .args .e) (pageOf (start c .args .w)) (start c .args .g) ≡ firstOf (tests c)
 unfolding statusOf
 tested c =
     let invalid = at-invalid c in
-    rw (← invalid .is-invalid .ensures, ← at-able c .is-unexportable .ensures, ← invalid .before .is-tracked .ensures, ← ap (λ (x : Listing). x .cancelled) (at-listing c .listing-of .ensures), ← ap (λ (x : Comes). x .live) (invalid .before .before .comes-in .ensures))
+    let read = read-fields (start c .args .w) _ (at-record c .record-of .ensures .0) in
+    rw (← invalid .is-invalid .ensures, ← at-able c .is-unexportable .ensures, ← read .stamp, ← invalid .before .is-tracked .ensures, ← at-cancelled c .before .state-of .ensures .1, ← at-cancelled c .is-cancelled .ensures, ← read .migrated, ← read .dirty, ← ap (λ (x : Comes). x .live) (invalid .before .before .comes-in .ensures))
 
-listing-of-requires : tie.Need-listing-of-requires
-listing-of-requires c κs = search needs
+record-of-requires : tie.Need-record-of-requires
+record-of-requires c κs = search needs
+
+state-of-requires : tie.Need-state-of-requires
+state-of-requires c κs = search needs
+
+is-cancelled-requires : tie.Need-is-cancelled-requires
+is-cancelled-requires c κs = search needs
 
 comes-in-requires : tie.Need-comes-in-requires
 comes-in-requires c κs = search needs
@@ -87,7 +98,9 @@ pub status-of-spec : {M : Type 1} → statement M
 status-of-spec =
     tie.close
     (tie.spec
-    listing-of-requires
+    record-of-requires
+    state-of-requires
+    is-cancelled-requires
     comes-in-requires
     is-tracked-requires
     is-invalid-requires

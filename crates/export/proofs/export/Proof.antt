@@ -4,7 +4,7 @@ use mathlib.Core.Path.{_≡_, refl, sym, ap, _∙_}
 use lib.ListN.{length}
 use denote.Ref.{now}
 use borrow.Author.Tests.{eq-eqb, ne-eqb}
-use Rattle.session.specs.Session.{runOf}
+use Rattle.session.specs.Session.{workOf}
 use Rattle.session.proofs.Laws.{below-next}
 use Rattle.export.specs.Run.{standing}
 use Rattle.export.specs.Export.{begunBy, exportOut}
@@ -13,11 +13,11 @@ use Rattle.export.proofs.export.Statement.{statement}
 use Rattle.export.proofs.export.Tie as tie
 
 -- past the tests, where the call goes on
-go-on : (c : tie.After-begin) → Ready (length (now (c .before .before .before .before .before .before .before .before .before .args .list))) (length (now (c .before .before .before .before .before .before .before .before .before .args .buffer))) (runOf (c .before .before .before .before .before .before .before .before .before .args .s) (c .before .before .before .before .before .before .before .before .before .args .stream)) (c .before .before .before .before .before .info-of .result)
+go-on : (c : tie.After-begin) → Ready (length (now (c .before .before .before .before .before .before .before .before .before .args .list))) (length (now (c .before .before .before .before .before .before .before .before .before .args .buffer))) (workOf (c .before .before .before .before .before .before .before .before .before .args .s) (c .before .before .before .before .before .before .before .before .before .args .stream)) (c .before .before .before .before .before .info-of .result)
 go-on c = export-ready _ _ _ _ _ _ _ (sym (c .before .before .before .before .export-code .ensures) ∙ c .before .before .before .if1 .left)
 
-begun : (c : tie.After-begin) → c .begin .result ≡ begunBy (runOf (c .before .before .before .before .before .before .before .before .before .args .s) (c .before .before .before .before .before .before .before .before .before .args .stream))
-begun c = c .begin .ensures ∙ ap begunBy (c .before .run-of .ensures)
+begun : (c : tie.After-begin) → c .begin .result ≡ begunBy (workOf (c .before .before .before .before .before .before .before .before .before .args .s) (c .before .before .before .before .before .before .before .before .before .args .stream))
+begun c = c .begin .ensures ∙ ap begunBy (c .before .work-of .ensures)
 
 info-of-requires : tie.Need-info-of-requires
 info-of-requires c κs = search needs
@@ -32,8 +32,8 @@ returns c = rw (← c .before .before .info-of .ensures .0, ← c .before .expor
 ground-of-requires : tie.Need-ground-of-requires
 ground-of-requires c κs = search needs
 
-run-of-requires : tie.Need-run-of-requires
-run-of-requires c κs = search needs
+work-of-requires : tie.Need-work-of-requires
+work-of-requires c κs = search needs
 
 begin-requires : tie.Need-begin-requires
 begin-requires c κs = search needs
@@ -43,7 +43,7 @@ run-entries-requires c κs =
     let at-begin = c .before .before .before in
     let ready = go-on at-begin in
     let from = begun at-begin in
-    (ready .within, ready .same, ready .short, rw from (ready .ordered), rw from (ready .counts .errors), rw from (ready .counts .pages))
+    (ready .within, ready .same, ready .short, rw from (ready .ordered), rw from (ready .counts .errors), rw from (ready .counts .filled))
 
 finish-requires : tie.Need-finish-requires
 finish-requires c κs =
@@ -51,10 +51,10 @@ finish-requires c κs =
     let at-begin = at-run-entries .before .before .before .before in
     let ready = go-on at-begin in
     let start = at-begin .before .before .before .before .before .before .before .before .before in
-    let from = standing (begunBy (runOf (start .args .s) (start .args .stream))) (now (start .args .table)) (now (start .args .list)) (now (start .args .buffer)) in
+    let from = standing (begunBy (workOf (start .args .s) (start .args .stream))) (now (start .args .table)) (now (start .args .list)) (now (start .args .buffer)) in
     let bounds = run-bounds (at-begin .before .before .ground-of .result) (at-begin .before .before .before .before .before .info-of .result .last) (start .args .budget) from (record { next = below-next _ _ (ready .ordered); counts = ready .counts }) in
     let ended = at-run-entries .run-entries .ensures .0 in
-    (at-begin .before .before .before .before .before .info-of .ensures .1, rw (ended, begun at-begin) (bounds .next), rw (ended, begun at-begin) (bounds .counts .pages))
+    (ready .short, rw (ended, begun at-begin) (bounds .next), rw (ended, begun at-begin) (bounds .counts .filled))
 
 same-length : tie.Need-same-length
 same-length c = search needs
@@ -70,13 +70,13 @@ unfolding exportOut
 returns-2 c =
     let at-run-entries = c .before .before .before .before .before .before .before in
     let at-begin = at-run-entries .before .before .before .before in
-    let at-run-of = at-begin .before in
-    let at-ground-of = at-run-of .before in
+    let at-work-of = at-begin .before in
+    let at-ground-of = at-work-of .before in
     let at-if1 = at-ground-of .before in
     let at-export-code = at-if1 .before in
     let at-info-of = at-export-code .before in
     let ran = at-run-entries .run-entries .ensures in
-    rw (← at-info-of .info-of .ensures .0, ← at-export-code .export-code .ensures, eq-eqb _ _ (at-if1 .if1 .left), ← at-ground-of .ground-of .ensures, ← at-run-of .run-of .ensures, ← at-begin .begin .ensures)
+    rw (← at-info-of .info-of .ensures .0, ← at-export-code .export-code .ensures, eq-eqb _ _ (at-if1 .if1 .left), ← at-ground-of .ground-of .ensures, ← at-work-of .work-of .ensures, ← at-begin .begin .ensures)
     (rw (← ran .0) (c .finish .ensures), (ran .1 .0, (ran .1 .1 .0, ran .1 .1 .1)))
 
 pub export-spec : {M : Type 1} → statement M
@@ -87,7 +87,7 @@ export-spec =
     export-code-requires
     returns
     ground-of-requires
-    run-of-requires
+    work-of-requires
     begin-requires
     run-entries-requires
     finish-requires

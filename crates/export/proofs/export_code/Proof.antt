@@ -36,10 +36,10 @@ past-gate : (c : tie.Else1) → exportCode (start c .args .s) (start c .args .le
 unfolding exportCode
 past-gate c =
     let g = at-gate c in
-    rw (gate-first, ← g .gate .ensures, eq-eqb _ _ (c .if1 .left), ← g .before .before .before .is-usable .ensures, ← g .before .before .before .before .run-of .ensures, ← g .before .before .is-resumable .ensures, ← g .before .is-resting .ensures)
+    rw (gate-first, ← g .gate .ensures, eq-eqb _ _ (c .if1 .left), ← g .before .before .before .is-usable .ensures, ← g .before .before .before .before .work-of .ensures, ← g .before .before .is-resumable .ensures, ← g .before .is-resting .ensures)
 
-run-of-requires : tie.Need-run-of-requires
-run-of-requires c κs = search needs
+work-of-requires : tie.Need-work-of-requires
+work-of-requires c κs = search needs
 
 is-usable-requires : tie.Need-is-usable-requires
 is-usable-requires c κs = search needs
@@ -91,7 +91,7 @@ pub export-code-spec : {M : Type 1} → statement M
 export-code-spec =
     tie.close
     (tie.spec
-    run-of-requires
+    work-of-requires
     is-usable-requires
     is-resumable-requires
     is-resting-requires

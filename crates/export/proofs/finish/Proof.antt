@@ -10,51 +10,40 @@ use Rattle.export.proofs.finish.Tie as tie
 mac-pages-requires : tie.Need-mac-pages-requires
 mac-pages-requires c κs = search needs
 
-next-first-requires : tie.Need-next-first-requires
-next-first-requires c κs = (omega (arith, c .before .pre .0 .last), c .before .pre .1)
+add-info-from : tie.Need-add-info-from
+add-info-from c = omega (arith, c .before .before .before .pre .0)
 
-info-word-requires : tie.Need-info-word-requires
-info-word-requires c κs =
-    let x = c .before .before .pre .0 in
-    record { format = x .format; first = omega (arith, c .next-first .ensures .1); hpa = x .hpa; zero52 = x .zero52; last = x .last }
+add-info-from-2 : tie.Need-add-info-from-2
+add-info-from-2 c = search needs
 
-with-run-requires : tie.Need-with-run-requires
-with-run-requires c κs = search needs
+rem-info-from : tie.Need-rem-info-from
+rem-info-from c = search needs
 
-add-t15 : tie.Need-add-t15
-add-t15 c = omega (arith, macs-few _ _ (c .before .before .before .before .before .mac-pages .ensures))
+info-from-requires : tie.Need-info-from-requires
+info-from-requires c κs = search needs
 
-add-t16 : tie.Need-add-t16
-add-t16 c =
-    let at-mac-pages = c .before .before .before .before .before .before in
-    let start = at-mac-pages .before in
-    omega (arith, macs-few _ _ (at-mac-pages .mac-pages .ensures), start .pre .0 .last, start .pre .1, start .pre .2)
+with-work-requires : tie.Need-with-work-requires
+with-work-requires c κs = search needs
+
+add-t13 : tie.Need-add-t13
+add-t13 c = omega (arith, macs-few _ _ (c .before .before .mac-pages .ensures))
+
+add-t14 : tie.Need-add-t14
+add-t14 c = let start = c .before .before .before .before .before .before in omega (arith, macs-few _ _ (c .before .before .before .mac-pages .ensures), start .pre .0, start .pre .1, start .pre .2)
 
 returns : tie.Need-returns
 unfolding finishedBy
-returns c =
-    let at-info-word = c .before .before .before .before in
-    let at-next-first = at-info-word .before in
-    let at-mac-pages = at-next-first .before in
-    rw (lt-ltb _ _ (c .before .before .if1 .taken), ← at-mac-pages .mac-pages .ensures, ← at-next-first .next-first .ensures .0, c .before .with-run .ensures, at-info-word .info-word .ensures)
+returns c = rw (lt-ltb _ _ (c .before .before .before .before .if1 .taken), ← c .before .before .before .mac-pages .ensures, c .before .with-work .ensures, c .before .before .info-from .ensures)
 
-with-run-requires-2 : tie.Need-with-run-requires-2
-with-run-requires-2 c κs = search needs
+info-from-requires-2 : tie.Need-info-from-requires-2
+info-from-requires-2 c κs = search needs
+
+with-work-requires-2 : tie.Need-with-work-requires-2
+with-work-requires-2 c κs = search needs
 
 returns-2 : tie.Need-returns-2
 unfolding finishedBy
-returns-2 c = rw (le-ltb _ _ (c .before .if1 .left), ← c .before .before .before .before .next-first .ensures .0, c .with-run2 .ensures, c .before .before .before .info-word .ensures)
+returns-2 c = rw (le-ltb _ _ (c .before .before .if1 .left), c .with-work2 .ensures, c .before .info-from2 .ensures)
 
 pub finish-spec : {M : Type 1} → statement M
-finish-spec =
-    tie.close
-    (tie.spec
-    mac-pages-requires
-    next-first-requires
-    info-word-requires
-    with-run-requires
-    add-t15
-    add-t16
-    returns
-    with-run-requires-2
-    returns-2)
+finish-spec = tie.close (tie.spec mac-pages-requires add-info-from add-info-from-2 rem-info-from info-from-requires with-work-requires add-t13 add-t14 returns info-from-requires-2 with-work-requires-2 returns-2)

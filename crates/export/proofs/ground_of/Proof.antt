@@ -9,7 +9,4 @@ unfolding groundOf
 returns c = search needs
 
 pub ground-of-spec : {M : Type 1} → statement M
-ground-of-spec =
-    tie.close
-    (tie.spec
-    returns)
+ground-of-spec = tie.close (tie.spec returns)

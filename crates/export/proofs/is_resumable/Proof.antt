@@ -6,20 +6,14 @@ use Rattle.export.proofs.is_resumable.Tie as tie
 enum-told : tie.Need-enum-told
 enum-told c = search needs
 
-enum-known-run : tie.Need-enum-known-run
-enum-known-run c = search needs
+enum-known-work : tie.Need-enum-known-work
+enum-known-work c = search needs
 
 returns : tie.Need-returns
 returns c = rw (c .enum-told .given .1)
 
 returns-2 : tie.Need-returns-2
-returns-2 c = rw (c .before .before .before .run .given .1)
+returns-2 c = rw (c .before .before .before .work .given .1)
 
 pub is-resumable-spec : {M : Type 1} → statement M
-is-resumable-spec =
-    tie.close
-    (tie.spec
-    enum-told
-    enum-known-run
-    returns
-    returns-2)
+is-resumable-spec = tie.close (tie.spec enum-told enum-known-work returns returns-2)

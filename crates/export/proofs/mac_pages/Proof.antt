@@ -13,8 +13,4 @@ unfolding macPages
 returns-2 c = rw (lt-leb _ _ (c .if1 .left))
 
 pub mac-pages-spec : {M : Type 1} → statement M
-mac-pages-spec =
-    tie.close
-    (tie.spec
-    returns
-    returns-2)
+mac-pages-spec = tie.close (tie.spec returns returns-2)

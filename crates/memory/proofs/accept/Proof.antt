@@ -15,9 +15,4 @@ unfolding acceptOut
 returns c = c .before .before .on-page .ensures
 
 pub accept-spec : {M : Type 1} → statement M
-accept-spec =
-    tie.close
-    (tie.spec
-    on-page-requires
-    same-length
-    returns)
+accept-spec = tie.close (tie.spec on-page-requires same-length returns)

@@ -15,9 +15,4 @@ unfolding addOut
 returns c = c .before .before .on-page .ensures
 
 pub add-spec : {M : Type 1} → statement M
-add-spec =
-    tie.close
-    (tie.spec
-    on-page-requires
-    same-length
-    returns)
+add-spec = tie.close (tie.spec on-page-requires same-length returns)

@@ -15,9 +15,4 @@ unfolding blockOut
 returns c = c .before .before .on-page .ensures
 
 pub block-spec : {M : Type 1} → statement M
-block-spec =
-    tie.close
-    (tie.spec
-    on-page-requires
-    same-length
-    returns)
+block-spec = tie.close (tie.spec on-page-requires same-length returns)

@@ -1,10 +1,11 @@
 -- The answer is that of the table's length, and the table is cleared where its code is 0.
 use borrow.Author.Needs.{needs}
-use mathlib.Core.Path.{refl}
+use mathlib.Core.Path.{refl, _∙_}
 use denote.Ref.{now}
 use Rattle.memory.specs.Memory.{newOut}
 use Rattle.session.proofs.Laws.{answered-table}
 use borrow.Author.Tests.{eq-eqb, ne-eqb}
+use Rattle.memory.proofs.Laws.{new-answer}
 use Rattle.memory.proofs.new.Statement.{statement}
 use Rattle.memory.proofs.new.Tie as tie
 
@@ -23,22 +24,15 @@ returns c =
     let at-clear = c .before .before in
     let at-if1 = at-clear .before .before in
     let at-answer = at-if1 .before .before in
-    let answer = at-answer .new-answer .ensures (now (at-answer .before .before .args .table)) refl in
+    let answer = at-answer .new-answer .ensures ∙ new-answer _ _ (now (at-answer .before .before .args .table)) _ refl in
     (answer, rw (answered-table _ _ _ _ _ _ answer, eq-eqb _ _ (at-if1 .if1 .taken)) (at-clear .clear .ensures))
 
 returns-2 : tie.Need-returns-2
 unfolding newOut
 returns-2 c =
     let at-answer = c .before .before in
-    let answer = at-answer .new-answer .ensures (now (at-answer .before .before .args .table)) refl in
+    let answer = at-answer .new-answer .ensures ∙ new-answer _ _ (now (at-answer .before .before .args .table)) _ refl in
     (answer, rw (answered-table _ _ _ _ _ _ answer, ne-eqb _ _ (c .if1 .left)))
 
 pub new-spec : {M : Type 1} → statement M
-new-spec =
-    tie.close
-    (tie.spec
-    new-answer-requires
-    clear-requires
-    same-length
-    returns
-    returns-2)
+new-spec = tie.close (tie.spec new-answer-requires clear-requires same-length returns returns-2)

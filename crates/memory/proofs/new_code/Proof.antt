@@ -20,10 +20,4 @@ unfolding newCode
 returns-3 c = rw (← c .before .before .is-legal .ensures, c .before .if1 .left, c .if2 .left)
 
 pub new-code-spec : {M : Type 1} → statement M
-new-code-spec =
-    tie.close
-    (tie.spec
-    is-legal-requires
-    returns
-    returns-2
-    returns-3)
+new-code-spec = tie.close (tie.spec is-legal-requires returns returns-2 returns-3)

@@ -15,9 +15,4 @@ unfolding removeOut
 returns c = c .before .before .on-page .ensures
 
 pub remove-spec : {M : Type 1} → statement M
-remove-spec =
-    tie.close
-    (tie.spec
-    on-page-requires
-    same-length
-    returns)
+remove-spec = tie.close (tie.spec on-page-requires same-length returns)

@@ -2,8 +2,7 @@
 use borrow.Author.Needs.{needs}
 use mathlib.Core.Path.{sym, _∙_}
 use native.Mathlib.Omega.{arith}
-use Rattle.memory.specs.Memory.{trackOut}
-use Rattle.session.specs.Outcome.{answered}
+use Rattle.memory.specs.Memory.{trackAnswer}
 use Rattle.memory.proofs.Laws.{track-room}
 use borrow.Author.Tests.{eq-eqb, ne-eqb}
 use Rattle.memory.proofs.track_answer.Statement.{statement}
@@ -13,8 +12,8 @@ track-code-requires : tie.Need-track-code-requires
 track-code-requires c κs = search needs
 
 returns : tie.Need-returns
-unfolding trackOut answered
-returns c t e = rw (e, ← c .before .track-code .ensures, ne-eqb _ _ (c .if1 .taken))
+unfolding trackAnswer
+returns c = rw (← c .before .track-code .ensures, ne-eqb _ _ (c .if1 .taken))
 
 add-with-tlb : tie.Need-add-with-tlb
 add-with-tlb c = omega (arith, track-room _ _ (sym (c .before .before .track-code .ensures) ∙ c .before .if1 .left))
@@ -23,15 +22,8 @@ with-tlb-requires : tie.Need-with-tlb-requires
 with-tlb-requires c κs = search needs
 
 returns-2 : tie.Need-returns-2
-unfolding trackOut answered
-returns-2 c t e = rw (e, ← c .before .before .before .track-code .ensures, eq-eqb _ _ (c .before .before .if1 .left), ← c .with-tlb .ensures)
+unfolding trackAnswer
+returns-2 c = rw (← c .before .before .before .track-code .ensures, eq-eqb _ _ (c .before .before .if1 .left), ← c .with-tlb .ensures)
 
 pub track-answer-spec : {M : Type 1} → statement M
-track-answer-spec =
-    tie.close
-    (tie.spec
-    track-code-requires
-    returns
-    add-with-tlb
-    with-tlb-requires
-    returns-2)
+track-answer-spec = tie.close (tie.spec track-code-requires returns add-with-tlb with-tlb-requires returns-2)

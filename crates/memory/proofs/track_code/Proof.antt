@@ -22,10 +22,4 @@ unfolding trackCode
 returns-3 c = rw (gate-first, ← c .before .before .before .gate .ensures, eq-eqb _ _ (c .before .before .if1 .left), lt-leb _ _ (c .if2 .left))
 
 pub track-code-spec : {M : Type 1} → statement M
-track-code-spec =
-    tie.close
-    (tie.spec
-    gate-requires
-    returns
-    returns-2
-    returns-3)
+track-code-spec = tie.close (tie.spec gate-requires returns returns-2 returns-3)

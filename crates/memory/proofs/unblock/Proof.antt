@@ -15,9 +15,4 @@ unfolding unblockOut
 returns c = c .before .before .on-page .ensures
 
 pub unblock-spec : {M : Type 1} → statement M
-unblock-spec =
-    tie.close
-    (tie.spec
-    on-page-requires
-    same-length
-    returns)
+unblock-spec = tie.close (tie.spec on-page-requires same-length returns)

@@ -15,9 +15,4 @@ unfolding writeOut
 returns c = c .before .before .on-page .ensures
 
 pub write-spec : {M : Type 1} → statement M
-write-spec =
-    tie.close
-    (tie.spec
-    on-page-requires
-    same-length
-    returns)
+write-spec = tie.close (tie.spec on-page-requires same-length returns)

@@ -39,12 +39,4 @@ returns-4 c =
     rw (gate-first, ← at-gate .gate .ensures, eq-eqb _ _ (at-if1 .if1 .left), ← at-is-busy .is-busy .ensures, at-if2 .if2 .left, c .if3 .left)
 
 pub new-epoch-code-spec : {M : Type 1} → statement M
-new-epoch-code-spec =
-    tie.close
-    (tie.spec
-    gate-requires
-    returns
-    is-busy-requires
-    returns-2
-    returns-3
-    returns-4)
+new-epoch-code-spec = tie.close (tie.spec gate-requires returns is-busy-requires returns-2 returns-3 returns-4)

@@ -17,9 +17,4 @@ unfolding answerOf
 returns-2 c = rw (ne-eqb _ _ (c .if1 .left))
 
 pub answer-spec : {M : Type 1} → statement M
-answer-spec =
-    tie.close
-    (tie.spec
-    returns
-    sub-t6
-    returns-2)
+answer-spec = tie.close (tie.spec returns sub-t6 returns-2)

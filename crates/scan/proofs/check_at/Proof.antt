@@ -12,8 +12,4 @@ unfolding checkedBy
 returns c = c .with-check .ensures
 
 pub check-at-spec : {M : Type 1} → statement M
-check-at-spec =
-    tie.close
-    (tie.spec
-    with-check-requires
-    returns)
+check-at-spec = tie.close (tie.spec with-check-requires returns)

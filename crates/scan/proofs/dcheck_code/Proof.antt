@@ -26,11 +26,4 @@ unfolding dcheckCode
 returns-4 c = rw (gate-first, ← c .before .before .before .before .gate .ensures, eq-eqb _ _ (c .before .before .if1 .left), c .before .if2 .left, c .if3 .left)
 
 pub dcheck-code-spec : {M : Type 1} → statement M
-dcheck-code-spec =
-    tie.close
-    (tie.spec
-    gate-requires
-    returns
-    returns-2
-    returns-3
-    returns-4)
+dcheck-code-spec = tie.close (tie.spec gate-requires returns returns-2 returns-3 returns-4)

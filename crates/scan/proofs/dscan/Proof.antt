@@ -41,14 +41,4 @@ returns-2 c =
     (c .answer .ensures ∙ ap (λ (g : Scanned). answerOf g s) (at-range .scan-range .ensures .0), (at-range .scan-range .ensures .1 .0, at-range .scan-range .ensures .1 .1))
 
 pub dscan-spec : {M : Type 1} → statement M
-dscan-spec =
-    tie.close
-    (tie.spec
-    dscan-code-requires
-    refuse-requires
-    returns
-    scan-range-requires
-    answer-requires
-    same-length
-    same-length-2
-    returns-2)
+dscan-spec = tie.close (tie.spec dscan-code-requires refuse-requires returns scan-range-requires answer-requires same-length same-length-2 returns-2)

@@ -29,12 +29,4 @@ unfolding dscanCode
 returns-4 c = rw (gate-first, ← c .before .before .before .before .gate .ensures, ← c .before .before .before .is-within .ensures, eq-eqb _ _ (c .before .before .if1 .left), c .before .if2 .left, c .if3 .left)
 
 pub dscan-code-spec : {M : Type 1} → statement M
-dscan-code-spec =
-    tie.close
-    (tie.spec
-    gate-requires
-    is-within-requires
-    returns
-    returns-2
-    returns-3
-    returns-4)
+dscan-code-spec = tie.close (tie.spec gate-requires is-within-requires returns returns-2 returns-3 returns-4)

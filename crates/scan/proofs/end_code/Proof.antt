@@ -12,8 +12,4 @@ unfolding endCode
 returns-2 c = rw (c .if1 .left)
 
 pub end-code-spec : {M : Type 1} → statement M
-end-code-spec =
-    tie.close
-    (tie.spec
-    returns
-    returns-2)
+end-code-spec = tie.close (tie.spec returns returns-2)

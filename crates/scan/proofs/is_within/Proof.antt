@@ -16,8 +16,4 @@ unfolding withinTable
 returns-2 c = rw (← leb-past _ (c .before .args .count) _ (c .if1 .left))
 
 pub is-within-spec : {M : Type 1} → statement M
-is-within-spec =
-    tie.close
-    (tie.spec
-    returns
-    returns-2)
+is-within-spec = tie.close (tie.spec returns returns-2)

@@ -7,7 +7,4 @@ returns : tie.Need-returns
 returns c = refl
 
 pub refuse-spec : {M : Type 1} → statement M
-refuse-spec =
-    tie.close
-    (tie.spec
-    returns)
+refuse-spec = tie.close (tie.spec returns)

@@ -23,39 +23,33 @@ loop-holds c = (search needs, refl, refl, rw sub-zero)
 load-requires : tie.Need-load-requires Inv-loop μ-loop
 load-requires c κs = search needs
 
-add-look-at : tie.Need-add-look-at Inv-loop μ-loop
-add-look-at c = search needs
+is-blocked-requires : tie.Need-is-blocked-requires Inv-loop μ-loop
+is-blocked-requires c κs = search needs
 
-look-at-requires : tie.Need-look-at-requires Inv-loop μ-loop
-look-at-requires c κs = search needs
+is-listed-requires : tie.Need-is-listed-requires Inv-loop μ-loop
+is-listed-requires c κs = search needs
 
 stop-code-requires : tie.Need-stop-code-requires Inv-loop μ-loop
 stop-code-requires c κs = search needs
 
-add-t16 : tie.Need-add-t16 Inv-loop μ-loop
-add-t16 c = search needs
+add-t17 : tie.Need-add-t17 Inv-loop μ-loop
+add-t17 c = search needs
 
 same-length : tie.Need-same-length Inv-loop μ-loop
-same-length c =
-    let at-loop = c .before .before .before .before .before .before .before .before in
-    at-loop .loop .inv .1
+same-length c = c .before .before .before .before .before .before .before .before .loop .inv .1
 
 same-length-2 : tie.Need-same-length-2 Inv-loop μ-loop
-same-length-2 c =
-    let at-loop = c .before .before .before .before .before .before .before .before in
-    at-loop .loop .inv .2
+same-length-2 c = c .before .before .before .before .before .before .before .before .loop .inv .2
 
 returns : tie.Need-returns Inv-loop μ-loop
 returns c =
-    let at-stop = c .before .before in
-    let at-look = at-stop .before in
-    let at-load = at-look .before .before in
-    let at-test = at-load .before .before in
-    let at-loop = at-test .before in
-    parts (sym (scan-stops _ _ _ _ _ _ _ _ _ (at-test .loop-test .taken) (at-load .load .ensures) (at-look .look-at .ensures) (at-stop .stop-code .ensures) (c .before .if1 .taken)) ∙ at-loop .loop .inv .3)
+    parts (sym (scan-stops _ _ _ _ _ _ _ _ _ _ (c .before .before .before .before .before .before .before .loop-test .taken) (c .before .before .before .before .before .load .ensures) (c .before .before .before .before .is-blocked .ensures) (c .before .before .before .is-listed .ensures) (c .before .before .stop-code .ensures) (c .before .if1 .taken)) ∙ c .before .before .before .before .before .before .before .before .loop .inv .3)
+
+add-visit : tie.Need-add-visit Inv-loop μ-loop
+add-visit c = search needs
 
 visit-requires : tie.Need-visit-requires Inv-loop μ-loop
-visit-requires c κs = stop-room _ _ _ _ _ (sym (c .before .before .before .stop-code .ensures) ∙ c .before .before .if1 .left)
+visit-requires c κs = stop-room _ _ _ _ _ _ (sym (c .before .before .before .before .stop-code .ensures) ∙ c .before .before .before .if1 .left)
 
 add-i : tie.Need-add-i Inv-loop μ-loop
 add-i c = search needs
@@ -66,24 +60,22 @@ loop-less c = search needs
 loop-again : tie.Need-loop-again Inv-loop μ-loop
 loop-again c =
     let at-visit = c .before .before .before .before in
-    let at-if1 = at-visit .before .before .before in
+    let at-if1 = at-visit .before .before .before .before in
     let at-stop = at-if1 .before in
-    let at-look = at-stop .before in
-    let at-load = at-look .before .before in
-    let at-test = at-load .before .before in
+    let at-test = at-stop .before .before .before .before .before in
     let at-loop = at-test .before in (
       omega arith,
       at-visit .visit .kept .0 ∙ at-loop .loop .inv .1,
       at-visit .visit .kept .1 .0 ∙ at-loop .loop .inv .2,
       rw (at-visit .visit .ensures .0, at-visit .visit .ensures .1 .0, at-visit .visit .ensures .1 .1)
-          (sym (scan-visits _ _ _ _ _ _ _ _ _ (at-test .loop-test .taken) (at-load .load .ensures) (at-look .look-at .ensures) (at-stop .stop-code .ensures) (at-if1 .if1 .left)) ∙ at-loop .loop .inv .3),
+          (sym (scan-visits _ _ _ _ _ _ _ _ _ _ (at-test .loop-test .taken) (at-stop .before .before .before .load .ensures) (at-stop .before .before .is-blocked .ensures) (at-stop .before .is-listed .ensures) (at-stop .stop-code .ensures) (at-if1 .if1 .left)) ∙ at-loop .loop .inv .3),
     )
 
 end-code-requires : tie.Need-end-code-requires Inv-loop μ-loop
 end-code-requires c κs = search needs
 
-add-t11 : tie.Need-add-t11 Inv-loop μ-loop
-add-t11 c = search needs
+add-t12 : tie.Need-add-t12 Inv-loop μ-loop
+add-t12 c = search needs
 
 same-length-3 : tie.Need-same-length-3 Inv-loop μ-loop
 same-length-3 c = c .before .before .before .loop .inv .1
@@ -95,26 +87,4 @@ returns-2 : tie.Need-returns-2 Inv-loop μ-loop
 returns-2 c = parts (sym (scan-ends _ _ _ _ _ _ _ (c .before .before .loop-test .left) (c .before .end-code .ensures)) ∙ c .before .before .before .loop .inv .3)
 
 pub scan-part-spec : {M : Type 1} → statement M
-scan-part-spec =
-    tie.close
-    (tie.spec
-    Inv-loop
-    μ-loop
-    loop-holds
-    load-requires
-    add-look-at
-    look-at-requires
-    stop-code-requires
-    add-t16
-    same-length
-    same-length-2
-    returns
-    visit-requires
-    add-i
-    loop-less
-    loop-again
-    end-code-requires
-    add-t11
-    same-length-3
-    same-length-4
-    returns-2)
+scan-part-spec = tie.close (tie.spec Inv-loop μ-loop loop-holds load-requires is-blocked-requires is-listed-requires stop-code-requires add-t17 same-length same-length-2 returns add-visit visit-requires add-i loop-less loop-again end-code-requires add-t12 same-length-3 same-length-4 returns-2)

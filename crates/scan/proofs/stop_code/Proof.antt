@@ -20,10 +20,4 @@ unfolding stopCode
 returns-4 c = rw (c .before .before .if1 .left, c .before .if2 .left, c .if3 .left)
 
 pub stop-code-spec : {M : Type 1} → statement M
-stop-code-spec =
-    tie.close
-    (tie.spec
-    returns
-    returns-2
-    returns-3
-    returns-4)
+stop-code-spec = tie.close (tie.spec returns returns-2 returns-3 returns-4)

@@ -28,14 +28,4 @@ returns-4 : tie.Need-returns-4
 returns-4 c = rw (c .enum-told4 .given .1)
 
 pub comes-in-spec : {M : Type 1} → statement M
-comes-in-spec =
-    tie.close
-    (tie.spec
-    enum-told
-    enum-told-2
-    enum-told-3
-    enum-told-4
-    returns
-    returns-2
-    returns-3
-    returns-4)
+comes-in-spec = tie.close (tie.spec enum-told enum-told-2 enum-told-3 enum-told-4 returns returns-2 returns-3 returns-4)

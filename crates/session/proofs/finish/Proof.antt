@@ -21,10 +21,4 @@ unfolding answered
 returns-2 c = rw (eq-eqb _ _ (c .before .before .before .before .if1 .left)) (refl, c .before .before .sweep-all .ensures)
 
 pub finish-spec : {M : Type 1} → statement M
-finish-spec =
-    tie.close
-    (tie.spec
-    returns
-    sweep-all-requires
-    same-length
-    returns-2)
+finish-spec = tie.close (tie.spec returns sweep-all-requires same-length returns-2)

@@ -23,11 +23,4 @@ unfolding gated
 returns-3 c = rw (← c .before .before .before .is-formed .ensures, ← c .before .before .is-in .ensures, c .before .if1 .left, c .if2 .left)
 
 pub gate-spec : {M : Type 1} → statement M
-gate-spec =
-    tie.close
-    (tie.spec
-    is-formed-requires
-    is-in-requires
-    returns
-    returns-2
-    returns-3)
+gate-spec = tie.close (tie.spec is-formed-requires is-in-requires returns returns-2 returns-3)

@@ -39,17 +39,4 @@ returns-5 : tie.Need-returns-5
 returns-5 c = rw (c .enum-told5 .given .1) (ap (λ (x : Comes). x .moving) (c .before .before .comes-in .ensures))
 
 pub is-in-spec : {M : Type 1} → statement M
-is-in-spec =
-    tie.close
-    (tie.spec
-    comes-in-requires
-    enum-told
-    enum-told-2
-    enum-told-3
-    enum-told-4
-    enum-told-5
-    returns
-    returns-2
-    returns-3
-    returns-4
-    returns-5)
+is-in-spec = tie.close (tie.spec comes-in-requires enum-told enum-told-2 enum-told-3 enum-told-4 enum-told-5 returns returns-2 returns-3 returns-4 returns-5)

@@ -13,9 +13,4 @@ returns : tie.Need-returns
 returns c = rw (c .before .no-check .ensures, c .at-rest .ensures)
 
 pub new-session-spec : {M : Type 1} → statement M
-new-session-spec =
-    tie.close
-    (tie.spec
-    no-check-requires
-    at-rest-requires
-    returns)
+new-session-spec = tie.close (tie.spec no-check-requires at-rest-requires returns)

@@ -13,9 +13,4 @@ returns : tie.Need-returns
 returns c = rw (← c .before .no-check .ensures) (c .with-check .ensures)
 
 pub reset-check-spec : {M : Type 1} → statement M
-reset-check-spec =
-    tie.close
-    (tie.spec
-    no-check-requires
-    with-check-requires
-    returns)
+reset-check-spec = tie.close (tie.spec no-check-requires with-check-requires returns)

@@ -23,20 +23,16 @@ loop-holds c = (search needs, rw sub-zero)
 load-requires : tie.Need-load-requires Inv-loop μ-loop
 load-requires c κs = search needs
 
-page-of-requires : tie.Need-page-of-requires Inv-loop μ-loop
-page-of-requires c κs = search needs
-
 is-sought-requires : tie.Need-is-sought-requires Inv-loop μ-loop
 is-sought-requires c κs = search needs
 
 returns : tie.Need-returns Inv-loop μ-loop
 returns c =
     let at-is-sought = c .before in
-    let at-page-of = at-is-sought .before in
-    let at-load = at-page-of .before in
+    let at-load = at-is-sought .before in
     let at-loop-test = at-load .before in
     let at-loop = at-loop-test .before in
-    sym (lowest-found _ _ _ _ (at-loop-test .loop-test .taken) (rw (← at-load .load .ensures, ← at-page-of .page-of .ensures, ← at-is-sought .is-sought .ensures) (c .if1 .taken))) ∙ at-loop .loop .inv .1
+    sym (lowest-found _ _ _ _ (at-loop-test .loop-test .taken) (rw (← at-load .load .ensures, ← at-is-sought .is-sought .ensures) (c .if1 .taken))) ∙ at-loop .loop .inv .1
 
 add-i : tie.Need-add-i Inv-loop μ-loop
 add-i c = search needs
@@ -47,11 +43,10 @@ loop-less c = search needs
 loop-again : tie.Need-loop-again Inv-loop μ-loop
 loop-again c =
     let at-is-sought = c .before in
-    let at-page-of = at-is-sought .before in
-    let at-load = at-page-of .before in
+    let at-load = at-is-sought .before in
     let at-loop-test = at-load .before in
     let at-loop = at-loop-test .before in
-    (omega arith, sym (lowest-next _ _ _ _ (at-loop-test .loop-test .taken) (rw (← at-load .load .ensures, ← at-page-of .page-of .ensures, ← at-is-sought .is-sought .ensures) (c .if1 .left))) ∙ at-loop .loop .inv .1)
+    (omega arith, sym (lowest-next _ _ _ _ (at-loop-test .loop-test .taken) (rw (← at-load .load .ensures, ← at-is-sought .is-sought .ensures) (c .if1 .left))) ∙ at-loop .loop .inv .1)
 
 returns-2 : tie.Need-returns-2 Inv-loop μ-loop
 returns-2 c =
@@ -59,17 +54,4 @@ returns-2 c =
     sym end ∙ sym (lowest-end _ _ _ _ (c .loop-test .left)) ∙ c .before .loop .inv .1
 
 pub find-spec : {M : Type 1} → statement M
-find-spec =
-    tie.close
-    (tie.spec
-    Inv-loop
-    μ-loop
-    loop-holds
-    load-requires
-    page-of-requires
-    is-sought-requires
-    returns
-    add-i
-    loop-less
-    loop-again
-    returns-2)
+find-spec = tie.close (tie.spec Inv-loop μ-loop loop-holds load-requires is-sought-requires returns add-i loop-less loop-again returns-2)

@@ -13,8 +13,4 @@ unfolding legal
 returns c = refl
 
 pub is-legal-spec : {M : Type 1} → statement M
-is-legal-spec =
-    tie.close
-    (tie.spec
-    mul-result
-    returns)
+is-legal-spec = tie.close (tie.spec mul-result returns)

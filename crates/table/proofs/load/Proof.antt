@@ -35,15 +35,4 @@ unfolding wordsAt
 returns-2 c = rw (le-ltb _ _ (c .if1 .left))
 
 pub load-spec : {M : Type 1} → statement M
-load-spec =
-    tie.close
-    (tie.spec
-    mul-t6
-    mul-t7
-    shared-slice-read-t9
-    mul-t10
-    add-t11
-    mul-t12
-    shared-slice-read-t14
-    returns
-    returns-2)
+load-spec = tie.close (tie.spec mul-t6 mul-t7 shared-slice-read-t9 mul-t10 add-t11 mul-t12 shared-slice-read-t14 returns returns-2)

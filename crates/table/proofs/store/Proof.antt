@@ -40,16 +40,4 @@ unfolding putAt
 returns-2 c = rw (le-ltb _ _ (c .if1 .left))
 
 pub store-spec : {M : Type 1} → statement M
-store-spec =
-    tie.close
-    (tie.spec
-    mul-table
-    mul-table-2
-    slice-write-table
-    mul-table-3
-    add-table
-    mul-table-4
-    slice-write-table-2
-    same-length
-    returns
-    returns-2)
+store-spec = tie.close (tie.spec mul-table mul-table-2 slice-write-table mul-table-3 add-table mul-table-4 slice-write-table-2 same-length returns returns-2)

@@ -1,7 +1,8 @@
--- After i rounds the table is the sweep of its first i pages, which is the definition at i.
+-- After i rounds the table is the sweep of its first i pages, and after all rounds of all of them (`sweep-first`).
 use borrow.Author.Needs.{needs}
-use Rattle.table.specs.Table.{sweepOf}
-use Rattle.page.specs.Sweeps.{sweptBy, sweptWords}
+use Rattle.page.specs.Page.{onWords}
+use Rattle.page.specs.Sweeps.{sweptBy}
+use Rattle.table.proofs.Laws.{sweepFirst, sweep-first}
 use lib.ListN.{length}
 use native.Mathlib.Numerals.{add-one}
 use native.Mathlib.Omega.{arith}
@@ -11,7 +12,7 @@ use Rattle.table.proofs.sweep_all.Statement.{statement}
 use Rattle.table.proofs.sweep_all.Tie as tie
 
 abbrev Inv-loop : tie.InvT-loop
-Inv-loop table₀ k n i₀ table i = (i ≤ n) × (table ≡ sweepOf (sweptWords (sweptBy k)) i table₀) × (length table ≡ length table₀)
+Inv-loop table₀ k n i₀ table i = (i ≤ n) × (table ≡ sweepFirst (onWords (sweptBy k)) i table₀) × (length table ≡ length table₀)
 
 abbrev μ-loop : tie.MeasureT-loop
 μ-loop table₀ k n i₀ table i = n - i
@@ -51,7 +52,7 @@ same-length c = search needs
 returns : tie.Need-returns Inv-loop μ-loop
 returns c =
     let end : c .before .loop .i ≡ length (c .before .before .before .args .table .now) / 2 = omega arith in
-    rw (← end) (c .before .loop .inv .1)
+    rw (← sweep-first (onWords (sweptBy (c .before .before .before .args .k))) (c .before .before .before .args .table .now), ← end) (c .before .loop .inv .1)
 
 pub sweep-all-spec : {M : Type 1} → statement M
 sweep-all-spec =

@@ -27,13 +27,4 @@ returns c =
     (w .0, (w .1 .0, (w .1 .1 .0, w .1 .1 .1 .0)))
 
 pub with-list-spec : {M : Type 1} → statement M
-with-list-spec =
-    tie.close
-    (tie.spec
-    slice-aggregate-buffer
-    slice-aggregate-with-lists
-    with-lists-requires
-    same-length
-    same-length-2
-    same-length-3
-    returns)
+with-list-spec = tie.close (tie.spec slice-aggregate-buffer slice-aggregate-with-lists with-lists-requires same-length same-length-2 same-length-3 returns)

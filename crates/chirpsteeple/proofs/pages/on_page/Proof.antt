@@ -6,20 +6,15 @@ use lib.ListN.{length}
 use borrow.Author.Needs.{needs}
 use borrow.Author.Tests.{eq-eqb, ne-eqb}
 use denote.Ref.{now}
-use Rattle.chirpsteeple.specs.Host.{readable}
-use Rattle.chirpsteeple.specs.Inside.{onePage}
-use Rattle.chirpsteeple.proofs.PageLaws.{turnOn, turnLeft, one-page}
+use Rattle.chirpsteeple.specs.Host.{lent, hostOf}
+use Rattle.chirpsteeple.specs.Inside.{readable, callOn}
+use Rattle.chirpsteeple.proofs.LayoutLaws.{host-refused}
+use Rattle.chirpsteeple.proofs.PageLaws.{turnOn, turnLeft, page-reads, one-page}
 use Rattle.chirpsteeple.proofs.pages.on_page.Statement.{statement}
 use Rattle.chirpsteeple.proofs.pages.on_page.Tie as tie
 
-slice-aggregate-words : tie.Need-slice-aggregate-words
-slice-aggregate-words c = search needs
-
 read-requires : tie.Need-read-requires
 read-requires c κs = search needs
-
-session-of-requires : tie.Need-session-of-requires
-session-of-requires c κs = search needs
 
 load-requires : tie.Need-load-requires
 load-requires c κs = search needs
@@ -36,18 +31,16 @@ same-length c = search needs
 -- what the contract says, by the turn that the code has
 turned :
     (c : tie.After-on-words) →
-    let a = c .before .before .before .before .before .before .before .before .before .before .before .before .before .before .args in
-    onePage (a .m) (now (a .session)) (now (a .table)) (a .page) ≡ turnLeft (now (a .session)) (now (a .table)) (a .page) (c .on-words .result)
+    let a = c .before .before .before .before .before .before .before .before .args in
+    hostOf (callOn (a .m) (a .page)) (lent (now (a .session)) (now (a .table))) ≡ turnLeft (now (a .session)) (now (a .table)) (a .page) (c .on-words .result)
 turned c =
     let at-load = c .before in
-    let at-session-of = at-load .before .before .before in
-    let at-if1 = at-session-of .before .before in
-    let at-read = at-if1 .before .before .before in
-    let at-known = at-read .before .before .before in
+    let at-if1 = at-load .before .before in
+    let at-read = at-if1 .before .before in
+    let at-known = at-read .before in
     let a = at-known .before .before .args in
-    let reads : readable (now (a .session)) (length (now (a .table))) ≡ true = sym (at-read .read2 .ensures .0) ∙ at-if1 .if1 .taken in
-    let words = at-read .read2 .ensures .1 (at-if1 .if1 .taken) in
-    let turn : c .on-words .result ≡ turnOn (a .m) (now (a .session)) (now (a .table)) (a .page) = rw (← words, ← at-session-of .session-of .ensures, ← at-load .load .ensures) (c .on-words .ensures) in
+    let reads : readable (now (a .session)) (length (now (a .table))) ≡ true = sym (at-read .read .ensures .0) ∙ at-if1 .if1 .taken in
+    let turn : c .on-words .result ≡ turnOn (a .m) (now (a .session)) (now (a .table)) (a .page) = rw (← at-read .read .ensures .1 (at-if1 .if1 .taken), ← at-load .load .ensures) (c .on-words .ensures) in
     rw turn
     (one-page (a .m) (now (a .session)) (now (a .table)) (a .page)
     (λ i. omega (arith, at-known .before .shared-slice-known .given i))
@@ -66,21 +59,10 @@ returns-2 : tie.Need-returns-2
 returns-2 c = rw (turned (c .before .before), ne-eqb _ _ (c .if2 .left)) (refl, (refl, refl))
 
 returns-3 : tie.Need-returns-3
-unfolding onePage
-returns-3 c = rw (sym (c .before .before .before .before .read2 .ensures .0) ∙ c .before .if1 .left) (refl, (refl, refl))
+returns-3 c =
+    let at-read = c .before .before in
+    let a = at-read .before .before .before .args in
+    rw (host-refused (callOn (a .m) (a .page)) (lent (now (a .session)) (now (a .table))) (page-reads (a .m) (a .page)) (sym (at-read .read .ensures .0) ∙ c .if1 .left)) (refl, (refl, refl))
 
 pub on-page-spec : {M : Type 1} → statement M
-on-page-spec =
-    tie.close
-    (tie.spec
-    slice-aggregate-words
-    read-requires
-    session-of-requires
-    load-requires
-    on-words-requires
-    store-requires
-    same-length
-    returns
-    same-length-2
-    returns-2
-    returns-3)
+on-page-spec = tie.close (tie.spec read-requires load-requires on-words-requires store-requires same-length returns same-length-2 returns-2 returns-3)

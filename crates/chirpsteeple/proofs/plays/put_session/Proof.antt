@@ -21,11 +21,4 @@ returns : tie.Need-returns
 returns c = c .before .before .encode .ensures ∙ ap bytesOf (c .before .before .before .before .before .words-of .ensures)
 
 pub put-session-spec : {M : Type 1} → statement M
-put-session-spec =
-    tie.close
-    (tie.spec
-    words-of-requires
-    slice-aggregate-encode
-    encode-requires
-    same-length
-    returns)
+put-session-spec = tie.close (tie.spec words-of-requires slice-aggregate-encode encode-requires same-length returns)

@@ -25,11 +25,4 @@ returns-2 c =
     rw kept
 
 pub put-unless-spec : {M : Type 1} → statement M
-put-unless-spec =
-    tie.close
-    (tie.spec
-    is-refusal-requires
-    put-session-requires
-    same-length
-    returns
-    returns-2)
+put-unless-spec = tie.close (tie.spec is-refusal-requires put-session-requires same-length returns returns-2)

@@ -10,8 +10,4 @@ returns : tie.Need-returns
 returns c = rw (← c .is-legal .ensures)
 
 pub is-table-spec : {M : Type 1} → statement M
-is-table-spec =
-    tie.close
-    (tie.spec
-    is-legal-requires
-    returns)
+is-table-spec = tie.close (tie.spec is-legal-requires returns)

@@ -1,41 +1,23 @@
--- Of another length than a session's nothing is read; else the decoded words and the test of them are those of `readable`.
+-- The words that were read, where they are in the layout, and the session that they are.
 use borrow.Author.Needs.{needs}
-use mathlib.Core.Path.{refl}
-use mathlib.Core.Bool.{false≢true}
-use borrow.Author.Tests.{eq-eqb, ne-eqb}
-use Rattle.chirpsteeple.specs.Host.{readable}
+use mathlib.Core.Path.{ap, _∙_}
+use Rattle.wire.specs.Sessions.{sessionOf}
 use Rattle.chirpsteeple.proofs.reads.read.Statement.{statement}
 use Rattle.chirpsteeple.proofs.reads.read.Tie as tie
 
-is-table-requires : tie.Need-is-table-requires
-is-table-requires c κs = search needs
+slice-aggregate-words : tie.Need-slice-aggregate-words
+slice-aggregate-words c = search needs
+
+read-words-requires : tie.Need-read-words-requires
+read-words-requires c κs = search needs
+
+session-of-requires : tie.Need-session-of-requires
+session-of-requires c κs = search needs
 
 returns : tie.Need-returns
-unfolding readable
-returns c = rw (ne-eqb _ _ (c .if1 .taken)) (refl, (λ e. absurd (false≢true e)))
-
-decode-requires : tie.Need-decode-requires
-decode-requires c κs = search needs
-
-is-session-requires : tie.Need-is-session-requires
-is-session-requires c κs = search needs
-
-same-length : tie.Need-same-length
-same-length c = search needs
-
-returns-2 : tie.Need-returns-2
-unfolding readable
-returns-2 c =
-    let at-decode = c .before .before .before .before in
-    (rw (eq-eqb _ _ (c .before .before .before .before .before .before .if1 .left), c .before .before .before .before .before .before .before .is-table .ensures, c .is-session .ensures, at-decode .decode .ensures), (λ e. at-decode .decode .ensures))
+returns c =
+    let words = c .before .before .before .before .before .read-words .ensures in
+    (words .0, (λ e. c .before .session-of .ensures ∙ ap sessionOf (words .1 e)))
 
 pub read-spec : {M : Type 1} → statement M
-read-spec =
-    tie.close
-    (tie.spec
-    is-table-requires
-    returns
-    decode-requires
-    is-session-requires
-    same-length
-    returns-2)
+read-spec = tie.close (tie.spec slice-aggregate-words read-words-requires session-of-requires returns)

@@ -1,6 +1,9 @@
 -- Each arm is the contract of its call, on the words that the bytes are.
 use borrow.Author.Needs.{needs}
+use mathlib.Core.Path.{_∙_}
 use denote.Ref.{now}
+use Rattle.memory.proofs.Laws.{track-answer}
+use Rattle.migration.proofs.Laws.{abort-answer}
 use Rattle.wire.specs.Bytes.{wordsOf}
 use Rattle.wire.proofs.BytesLaws.{words-length}
 use Rattle.chirpsteeple.proofs.sweeps.answer_of.Statement.{statement}
@@ -33,7 +36,7 @@ abort-answer-requires c κs = search needs
 returns : tie.Need-returns
 returns c =
     let t = now (c .before .before .before .before .args .table) in
-    rw (c .before .enum-told .given .1) (c .track-answer .ensures (wordsOf t) (words-length t))
+    rw (c .before .enum-told .given .1) (c .track-answer .ensures ∙ track-answer _ _ (wordsOf t) (words-length t))
 
 returns-2 : tie.Need-returns-2
 returns-2 c = rw (c .before .enum-told2 .given .1) (c .start .ensures)
@@ -44,7 +47,7 @@ returns-3 c = rw (c .before .enum-told3 .given .1) (c .pause .ensures)
 returns-4 : tie.Need-returns-4
 returns-4 c =
     let t = now (c .before .before .before .before .args .table) in
-    rw (c .before .enum-told4 .given .1) (c .abort-answer .ensures (wordsOf t) (words-length t))
+    rw (c .before .enum-told4 .given .1) (c .abort-answer .ensures ∙ abort-answer _ _ (wordsOf t) (words-length t))
 
 pub answer-of-spec : {M : Type 1} → statement M
 answer-of-spec =

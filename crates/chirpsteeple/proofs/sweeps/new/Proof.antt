@@ -1,7 +1,6 @@
 -- In the layouts what is left is by the answer (`new-left`), and else 40.
 use borrow.Author.Needs.{needs}
 use mathlib.Core.Path.{refl, ap, _∙_}
-use mathlib.Core.Bool.{true}
 use lib.Dec.{eqb}
 use lib.ListN.{length, replicate}
 use borrow.Author.Tests.{eqb-true, eq-eqb, ne-eqb}
@@ -10,10 +9,11 @@ use Rattle.refusals.proofs.Laws.{and-left}
 use Rattle.session.specs.declared.Session.{Session}
 use Rattle.memory.specs.Memory.{newOut}
 use Rattle.calls.specs.declared.Call.the-variants.{New}
+use Rattle.memory.proofs.Laws.{new-answer}
 use Rattle.wire.specs.Bytes.{wordsOf}
 use Rattle.wire.proofs.BytesLaws.{words-length}
 use Rattle.chirpsteeple.specs.Host.{lent, hostOf, sessionBytes}
-use Rattle.chirpsteeple.proofs.LayoutLaws.{new-refused}
+use Rattle.chirpsteeple.proofs.LayoutLaws.{host-none}
 use Rattle.chirpsteeple.proofs.SweepLaws.{Leaves, new-left}
 use Rattle.chirpsteeple.proofs.sweeps.new.Statement.{statement}
 use Rattle.chirpsteeple.proofs.sweeps.new.Tie as tie
@@ -48,7 +48,7 @@ same-length-2 c = search needs
 left :
     (c : tie.After-new-answer) →
     let a = c .before .before .before .before .before .before .before .args in
-    Leaves (now (a .session)) (now (a .table)) (c .new-answer .result) (replicate (length (now (a .table))) 0) (hostOf true (New (a .created)) (lent (now (a .session)) (now (a .table))))
+    Leaves (now (a .session)) (now (a .table)) (c .new-answer .result) (replicate (length (now (a .table))) 0) (hostOf (New (a .created)) (lent (now (a .session)) (now (a .table))))
 left c =
     let at-session = c .before in
     let at-if1 = at-session .before .before in
@@ -57,7 +57,7 @@ left c =
     let t = now (a .table) in
     new-left (a .created) (now (a .session)) t (c .new-answer .result)
     (rw (at-table .is-table .ensures) at (at-if1 .if1 .taken))
-    (c .new-answer .ensures (wordsOf t) (words-length t) ∙ ap (λ (x : Session). newOut x (wordsOf t) (a .created) .answer) (at-session .session-of .ensures))
+    (c .new-answer .ensures ∙ new-answer _ _ (wordsOf t) _ (words-length t) ∙ ap (λ (x : Session). newOut x (wordsOf t) (a .created) .answer) (at-session .session-of .ensures))
 
 returns : tie.Need-returns
 returns c =
@@ -73,7 +73,7 @@ returns-2 c = rw (ne-eqb _ _ (c .if2 .left)) at (left (c .before .before))
 returns-3 : tie.Need-returns-3
 returns-3 c =
     let a = c .before .before .before .before .args in
-    rw (new-refused (a .created) (lent (now (a .session)) (now (a .table))) (rw (c .before .is-table .ensures) at (c .if1 .left))) (refl, (refl, refl))
+    rw (host-none (New (a .created)) (lent (now (a .session)) (now (a .table))) (rw (rw (c .before .is-table .ensures) at (c .if1 .left)))) (refl, (refl, refl))
 
 pub new-spec : {M : Type 1} → statement M
 new-spec =

@@ -1,15 +1,13 @@
 -- In the layouts what is left is by the answer (`sweeping-left`), and else 40.
 use borrow.Author.Needs.{needs}
 use mathlib.Core.Path.{refl, sym, ap, _∙_}
-use mathlib.Core.Bool.{true}
-use lib.ListN.{length}
 use borrow.Author.Tests.{eq-eqb, ne-eqb}
 use denote.Ref.{now}
-use Rattle.page.specs.Sweeps.{sweptBy, sweptWords}
-use Rattle.table.specs.Table.{pageCount, sweepOf}
+use Rattle.page.specs.Page.{onWords}
+use Rattle.page.specs.Sweeps.{sweptBy}
+use Rattle.table.specs.Table.{sweepOf}
 use Rattle.session.specs.declared.Session.{Session}
 use Rattle.wire.specs.Bytes.{wordsOf, bytesOf}
-use Rattle.wire.specs.Sessions.{sessionOf}
 use Rattle.chirpsteeple.specs.Host.{lent, hostOf}
 use Rattle.chirpsteeple.specs.Inside.{sweepFor, sweepingOut, callSweeping}
 use Rattle.chirpsteeple.proofs.LayoutLaws.{readable-means, table-whole, host-refused}
@@ -17,14 +15,8 @@ use Rattle.chirpsteeple.proofs.SweepLaws.{Leaves, sweeping-reads, sweep
 use Rattle.chirpsteeple.proofs.sweeps.on_table.Statement.{statement}
 use Rattle.chirpsteeple.proofs.sweeps.on_table.Tie as tie
 
-slice-aggregate-words : tie.Need-slice-aggregate-words
-slice-aggregate-words c = search needs
-
 read-requires : tie.Need-read-requires
 read-requires c κs = search needs
-
-session-of-requires : tie.Need-session-of-requires
-session-of-requires c κs = search needs
 
 answer-of-requires : tie.Need-answer-of-requires
 answer-of-requires c κs = search needs
@@ -34,13 +26,13 @@ sweep-for-requires c κs = search needs
 
 sweep-all-requires : tie.Need-sweep-all-requires
 sweep-all-requires c κs =
-    let at-if1 = c .before .before .before .before .before .before .before .before .before in
-    table-whole _ (readable-means _ _ (sym (at-if1 .before .before .before .read2 .ensures .0) ∙ at-if1 .if1 .taken) .table)
+    let at-if1 = c .before .before .before .before .before .before in
+    table-whole _ (readable-means _ _ (sym (at-if1 .before .before .read .ensures .0) ∙ at-if1 .if1 .taken) .table)
 
 put-session-requires : tie.Need-put-session-requires
 put-session-requires c κs =
-    let at-if1 = c .before .before .before .before .before .before .before .before .before .before .before .before .before in
-    readable-means _ _ (sym (at-if1 .before .before .before .read2 .ensures .0) ∙ at-if1 .if1 .taken) .long
+    let at-if1 = c .before .before .before .before .before .before .before .before .before .before in
+    readable-means _ _ (sym (at-if1 .before .before .read .ensures .0) ∙ at-if1 .if1 .taken) .long
 
 same-length : tie.Need-same-length
 same-length c = search needs
@@ -51,21 +43,19 @@ same-length-2 c = search needs
 -- what the contract says, by the answer
 left :
     (c : tie.After-answer-of) →
-    let a = c .before .before .before .before .before .before .before .before .before .before .before .before .before .before .args in
+    let a = c .before .before .before .before .before .before .before .before .args in
     let t = wordsOf (now (a .table)) in
-    Leaves (now (a .session)) (now (a .table)) (c .answer-of .result) (bytesOf (sweepOf (sweptWords (sweptBy (sweepFor (a .k)))) (pageCount t) t)) (hostOf true (callSweeping (a .k)) (lent (now (a .session)) (now (a .table))))
+    Leaves (now (a .session)) (now (a .table)) (c .answer-of .result) (bytesOf (sweepOf (onWords (sweptBy (sweepFor (a .k)))) t)) (hostOf (callSweeping (a .k)) (lent (now (a .session)) (now (a .table))))
 left c =
-    let at-session = c .before .before .before in
-    let at-if1 = at-session .before .before in
-    let at-read = at-if1 .before .before .before in
-    let at-table = at-read .before .before .before .before in
+    let at-if1 = c .before .before in
+    let at-read = at-if1 .before .before in
+    let at-table = at-read .before .before in
     let a = at-table .before .before .args in
-    let session = at-session .session-of .ensures ∙ ap sessionOf (at-read .read2 .ensures .1 (at-if1 .if1 .taken)) in
     sweeping-left (a .k) (now (a .session)) (now (a .table)) (c .answer-of .result)
     (λ i. at-table .before .slice-known .given i .fits)
     (λ i. at-table .slice-known2 .given i .fits)
-    (sym (at-read .read2 .ensures .0) ∙ at-if1 .if1 .taken)
-    (c .answer-of .ensures ∙ ap (λ (x : Session). sweepingOut (a .k) x (wordsOf (now (a .table))) .answer) session)
+    (sym (at-read .read .ensures .0) ∙ at-if1 .if1 .taken)
+    (c .answer-of .ensures ∙ ap (λ (x : Session). sweepingOut (a .k) x (wordsOf (now (a .table))) .answer) (at-read .read .ensures .1 (at-if1 .if1 .taken)))
 
 returns : tie.Need-returns
 returns c =
@@ -90,18 +80,15 @@ same-length-5 c = search needs
 
 returns-3 : tie.Need-returns-3
 returns-3 c =
-    let at-if1 = c .before in
-    let at-read = at-if1 .before .before .before in
-    let a = at-read .before .before .before .before .before .before .args in
-    rw (host-refused true (callSweeping (a .k)) (lent (now (a .session)) (now (a .table))) (sweeping-reads (a .k)) (sym (at-read .read2 .ensures .0) ∙ at-if1 .if1 .left)) (refl, (refl, refl))
+    let at-read = c .before .before in
+    let a = at-read .before .before .before .before .args in
+    rw (host-refused (callSweeping (a .k)) (lent (now (a .session)) (now (a .table))) (sweeping-reads (a .k)) (sym (at-read .read .ensures .0) ∙ c .if1 .left)) (refl, (refl, refl))
 
 pub on-table-spec : {M : Type 1} → statement M
 on-table-spec =
     tie.close
     (tie.spec
-    slice-aggregate-words
     read-requires
-    session-of-requires
     answer-of-requires
     sweep-for-requires
     sweep-all-requires

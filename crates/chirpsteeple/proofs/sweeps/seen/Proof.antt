@@ -15,9 +15,4 @@ returns-2 : tie.Need-returns-2
 returns-2 c e = absurd (false≢true (sym (c .if1 .left) ∙ e))
 
 pub seen-spec : {M : Type 1} → statement M
-seen-spec =
-    tie.close
-    (tie.spec
-    has-requires
-    returns
-    returns-2)
+seen-spec = tie.close (tie.spec has-requires returns returns-2)

@@ -1,8 +1,9 @@
 -- What is looked for is what the answer asks for, on the words that the bytes are.
 use borrow.Author.Needs.{needs}
-use mathlib.Core.Path.{sym}
+use mathlib.Core.Path.{sym, _∙_}
 use denote.Ref.{now}
 use borrow.Author.Tests.{eq-eqb, le-leb}
+use Rattle.migration.proofs.Laws.{token-answer}
 use Rattle.wire.specs.Bytes.{wordsOf}
 use Rattle.wire.proofs.BytesLaws.{words-length, page-count}
 use Rattle.chirpsteeple.proofs.tables.answer_of.Statement.{statement}
@@ -26,16 +27,9 @@ returns c =
     let at-53 = at-54 .before in
     let at-gate = at-53 .before in
     let t = now (at-gate .before .before .args .table) in
-    c .token-answer .ensures (wordsOf t) (rw (words-length t) (at-gate .token-gate .ensures)) (sym (page-count t))
+    c .token-answer .ensures ∙ token-answer _ (wordsOf t) _ _ _ _ (rw (words-length t) (at-gate .token-gate .ensures)) (sym (page-count t))
     (λ z. at-53 .first .ensures (eq-eqb _ _ z))
     (λ z h. at-54 .first2 .ensures (rw (eq-eqb _ _ z) (le-leb _ _ h)))
 
 pub answer-of-spec : {M : Type 1} → statement M
-answer-of-spec =
-    tie.close
-    (tie.spec
-    token-gate-requires
-    first-requires
-    first-requires-2
-    token-answer-requires
-    returns)
+answer-of-spec = tie.close (tie.spec token-gate-requires first-requires first-requires-2 token-answer-requires returns)

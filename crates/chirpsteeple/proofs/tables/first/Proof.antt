@@ -15,9 +15,4 @@ returns-2 : tie.Need-returns-2
 returns-2 c e = absurd (false≢true (sym (c .if1 .left) ∙ e))
 
 pub first-spec : {M : Type 1} → statement M
-first-spec =
-    tie.close
-    (tie.spec
-    find-requires
-    returns
-    returns-2)
+first-spec = tie.close (tie.spec find-requires returns returns-2)

@@ -1,5 +1,7 @@
 -- Each arm is the contract of its call.
 use borrow.Author.Needs.{needs}
+use mathlib.Core.Path.{_∙_}
+use Rattle.migration.proofs.Laws.{new-epoch-answer, reset-answer}
 use Rattle.chirpsteeple.proofs.tables.make.Statement.{statement}
 use Rattle.chirpsteeple.proofs.tables.make.Tie as tie
 
@@ -16,18 +18,10 @@ reset-requires : tie.Need-reset-requires
 reset-requires c κs = search needs
 
 returns : tie.Need-returns
-returns c t e = rw (c .before .enum-told .given .1) (c .new-epoch .ensures t e)
+returns c t e = rw (c .before .enum-told .given .1) (c .new-epoch .ensures ∙ new-epoch-answer _ _ t e)
 
 returns-2 : tie.Need-returns-2
-returns-2 c t e = rw (c .before .enum-told2 .given .1) (c .reset .ensures t e)
+returns-2 c t e = rw (c .before .enum-told2 .given .1) (c .reset .ensures ∙ reset-answer _ _ t e)
 
 pub make-spec : {M : Type 1} → statement M
-make-spec =
-    tie.close
-    (tie.spec
-    enum-told
-    new-epoch-requires
-    enum-told-2
-    reset-requires
-    returns
-    returns-2)
+make-spec = tie.close (tie.spec enum-told new-epoch-requires enum-told-2 reset-requires returns returns-2)

@@ -18,10 +18,4 @@ unfolding counted
 returns c = rw (c .before .before .count-if .ensures, c .before .count-if2 .ensures)
 
 pub count-spec : {M : Type 1} → statement M
-count-spec =
-    tie.close
-    (tie.spec
-    count-if-requires
-    count-if-requires-2
-    add-t9
-    returns)
+count-spec = tie.close (tie.spec count-if-requires count-if-requires-2 add-t9 returns)

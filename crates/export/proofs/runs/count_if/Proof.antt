@@ -15,9 +15,4 @@ returns : tie.Need-returns
 returns c = search needs
 
 pub count-if-spec : {M : Type 1} → statement M
-count-if-spec =
-    tie.close
-    (tie.spec
-    cast-result
-    add-result
-    returns)
+count-if-spec = tie.close (tie.spec cast-result add-result returns)

@@ -19,7 +19,7 @@ abbrev μ-loop : tie.MeasureT-loop
 μ-loop table₀ list₀ buffer₀ last budget g at₀ spent₀ table list buffer at spent = budget - spent
 
 loop-holds : tie.Need-loop-holds Inv-loop μ-loop
-loop-holds c = (refl, refl, refl, omega (arith, c .before .before .before .pre .3), record { errors = c .before .before .before .pre .4; pages = c .before .before .before .pre .5 }, rw sub-zero)
+loop-holds c = (refl, refl, refl, omega (arith, c .before .before .before .pre .3), record { errors = c .before .before .before .pre .4; filled = c .before .before .before .pre .5 }, rw sub-zero)
 
 same-length : tie.Need-same-length Inv-loop μ-loop
 same-length c = c .before .before .before .loop .inv .0
@@ -43,7 +43,7 @@ step-requires c κs =
       omega (arith, here, start .pre .0, start .pre .1, at-loop .loop .inv .2),
       omega (arith, here, start .pre .2),
       at-loop .loop .inv .4 .errors,
-      at-loop .loop .inv .4 .pages,
+      at-loop .loop .inv .4 .filled,
     )
 
 add-spent : tie.Need-add-spent Inv-loop μ-loop

@@ -19,34 +19,26 @@ entry-of-requires c κs = search needs
 load-requires : tie.Need-load-requires
 load-requires c κs = search needs
 
-page-of-requires : tie.Need-page-of-requires
-page-of-requires c κs = search needs
-
 take-entry-requires : tie.Need-take-entry-requires
 take-entry-requires c κs = search needs
 
-words-after-requires : tie.Need-words-after-requires
-words-after-requires c κs = search needs
-
 count-requires : tie.Need-count-requires
-count-requires c κs =
-    let start = c .before .before .before .before .before .before .before .before .before .before in
-    (start .pre .2, start .pre .3, start .pre .4)
+count-requires c κs = let start = c .before .before .before .before .before .before .before .before .before in (start .pre .2, start .pre .3, start .pre .4)
 
 store-requires : tie.Need-store-requires
 store-requires c κs = search needs
 
 mul-list : tie.Need-mul-list
-mul-list c = omega (arith, c .before .before .before .before .before .before .before .before .before .before .before .before .before .before .before .pre .2)
+mul-list c = omega (arith, c .before .before .before .before .before .before .before .before .before .before .before .before .before .before .pre .2)
 
 slice-write-list : tie.Need-slice-write-list
-slice-write-list c = omega (arith, c .before .before .before .before .before .before .before .before .before .before .before .before .before .before .before .pre .0)
+slice-write-list c = omega (arith, c .before .before .before .before .before .before .before .before .before .before .before .before .before .before .pre .0)
 
 mul-buffer : tie.Need-mul-buffer
-mul-buffer c = omega (arith, c .before .before .before .before .before .before .before .before .before .before .before .before .before .before .before .pre .2)
+mul-buffer c = omega (arith, c .before .before .before .before .before .before .before .before .before .before .before .before .before .before .pre .2)
 
 slice-write-buffer : tie.Need-slice-write-buffer
-slice-write-buffer c = omega (arith, c .before .before .before .before .before .before .before .before .before .before .before .before .before .before .before .pre .1)
+slice-write-buffer c = omega (arith, c .before .before .before .before .before .before .before .before .before .before .before .before .before .before .pre .1)
 
 same-length : tie.Need-same-length
 same-length c = search needs
@@ -60,35 +52,11 @@ same-length-3 c = search needs
 returns : tie.Need-returns
 unfolding stepped
 returns c =
-    let at-store = c .before .before in
-    let at-count = at-store .before .before in
-    let at-words-after = at-count .before in
-    let at-take-entry = at-words-after .before in
-    let at-page-of = at-take-entry .before in
-    let at-load = at-page-of .before in
-    let at-entry-of = at-load .before .before in
-    let place = ap (λ (e : Entry). e .gpa) (at-entry-of .entry-of .ensures .0) in
-    rw (← place, ← at-load .load .ensures, ← at-page-of .page-of .ensures, ← at-take-entry .take-entry .ensures, ← at-words-after .words-after .ensures)
-    (at-count .count .ensures, (at-store .store .ensures, (refl, refl)))
+    let at-count = c .before .before .before .before in
+    let at-take-entry = at-count .before .before in
+    let at-load = at-take-entry .before in
+    let gpa = ap (λ (e : Entry). e .gpa) (at-load .before .before .entry-of .ensures .0) in
+    rw (← gpa, ← at-load .load .ensures, ← at-take-entry .take-entry .ensures) (at-count .count .ensures, (c .before .before .store .ensures, (refl, refl)))
 
 pub step-spec : {M : Type 1} → statement M
-step-spec =
-    tie.close
-    (tie.spec
-    mul-w
-    slice-read-w
-    entry-of-requires
-    load-requires
-    page-of-requires
-    take-entry-requires
-    words-after-requires
-    count-requires
-    store-requires
-    mul-list
-    slice-write-list
-    mul-buffer
-    slice-write-buffer
-    same-length
-    same-length-2
-    same-length-3
-    returns)
+step-spec = tie.close (tie.spec mul-w slice-read-w entry-of-requires load-requires take-entry-requires count-requires store-requires mul-list slice-write-list mul-buffer slice-write-buffer same-length same-length-2 same-length-3 returns)

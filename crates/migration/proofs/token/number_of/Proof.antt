@@ -22,12 +22,4 @@ returns-3 : tie.Need-returns-3
 returns-3 c = rw (c .before .k2 .given .1)
 
 pub number-of-spec : {M : Type 1} → statement M
-number-of-spec =
-    tie.close
-    (tie.spec
-    enum-told
-    enum-known-k
-    enum-known-k-2
-    returns
-    returns-2
-    returns-3)
+number-of-spec = tie.close (tie.spec enum-told enum-known-k enum-known-k-2 returns returns-2 returns-3)

@@ -22,12 +22,4 @@ returns-3 : tie.Need-returns-3
 returns-3 c = rw (c .before .k .given .1)
 
 pub page-of-spec : {M : Type 1} → statement M
-page-of-spec =
-    tie.close
-    (tie.spec
-    enum-told
-    enum-told-2
-    enum-known-k
-    returns
-    returns-2
-    returns-3)
+page-of-spec = tie.close (tie.spec enum-told enum-told-2 enum-known-k returns returns-2 returns-3)

@@ -35,12 +35,4 @@ returns-4 c =
     rw (gate-first _ _ (phasesOf Blackout) (tokenGate _), ← at-if1 .before .gate .ensures, eq-eqb _ _ (at-if1 .if1 .left), ← at-is-busy .is-busy .ensures, at-if2 .if2 .left, c .if3 .left)
 
 pub token-gate-spec : {M : Type 1} → statement M
-token-gate-spec =
-    tie.close
-    (tie.spec
-    gate-requires
-    returns
-    is-busy-requires
-    returns-2
-    returns-3
-    returns-4)
+token-gate-spec = tie.close (tie.spec gate-requires returns is-busy-requires returns-2 returns-3 returns-4)

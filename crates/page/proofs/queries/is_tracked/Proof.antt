@@ -9,7 +9,4 @@ unfolding tracked
 returns c = refl
 
 pub is-tracked-spec : {M : Type 1} → statement M
-is-tracked-spec =
-    tie.close
-    (tie.spec
-    returns)
+is-tracked-spec = tie.close (tie.spec returns)

@@ -1,20 +1,18 @@
--- It is that trait of the state's row.
+-- What is asked of the number is asked of the state that it names.
 use borrow.Author.Needs.{needs}
-use mathlib.Core.Bool.{not}
 use mathlib.Core.Path.{ap}
-use Rattle.states.specs.declared.Row.{Row}
+use mathlib.Core.Bool.{not}
 use Rattle.page.proofs.queries.is_unstartable.Statement.{statement}
 use Rattle.page.proofs.queries.is_unstartable.Tie as tie
 
-row-of-requires : tie.Need-row-of-requires
-row-of-requires c κs = search needs
+state-of-requires : tie.Need-state-of-requires
+state-of-requires c κs = search needs
+
+is-startable-requires : tie.Need-is-startable-requires
+is-startable-requires c κs = search needs
 
 returns : tie.Need-returns
-returns c = ap (λ (x : Row). not (x .startable)) (c .before .row-of .ensures)
+returns c = rw (← c .before .state-of .ensures .1) (ap not (c .is-startable .ensures))
 
 pub is-unstartable-spec : {M : Type 1} → statement M
-is-unstartable-spec =
-    tie.close
-    (tie.spec
-    row-of-requires
-    returns)
+is-unstartable-spec = tie.close (tie.spec state-of-requires is-startable-requires returns)

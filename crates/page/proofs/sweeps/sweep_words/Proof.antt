@@ -1,36 +1,31 @@
--- A strange page as it was; else the word that reads as the swept page.
+-- A strange record stays, and any other is swept.
 use borrow.Author.Needs.{needs}
-use mathlib.Core.Path.{sym, _∙_}
+use mathlib.Core.Path.{sym, ap, _∙_}
+use Rattle.states.specs.States.{isStrange}
+use Rattle.page.specs.Page.{onWords}
 use Rattle.page.specs.Sweeps.{sweptBy}
-use Rattle.page.proofs.MoveLaws.{strange-swept}
-use Rattle.page.proofs.SweepLaws.{swept-record}
+use Rattle.page.proofs.Laws.{words-stay, read-number}
 use Rattle.page.proofs.sweeps.sweep_words.Statement.{statement}
 use Rattle.page.proofs.sweeps.sweep_words.Tie as tie
+
+state-of-requires : tie.Need-state-of-requires
+state-of-requires c κs = search needs
+
+swept-requires : tie.Need-swept-requires
+swept-requires c κs = search needs
 
 is-strange-requires : tie.Need-is-strange-requires
 is-strange-requires c κs = search needs
 
-sweep-word-requires : tie.Need-sweep-word-requires
-sweep-word-requires c κs = search needs
-
 returns : tie.Need-returns
-returns c =
-    let at-is-strange = c .before .before in
-    let start = at-is-strange .before in
-    sym (strange-swept (sweptBy (start .args .k)) (start .args .w) (sym (at-is-strange .is-strange .ensures) ∙ c .if1 .taken))
+returns c = let start = c .before .before .before .before in sym (words-stay (sweptBy (start .args .k)) (start .args .w) (ap isStrange (sym (c .before .before .before .state-of .ensures .1)) ∙ sym (c .before .is-strange .ensures) ∙ c .if1 .taken))
 
 returns-2 : tie.Need-returns-2
+unfolding onWords
 returns-2 c =
-    let at-is-strange = c .before .before in
-    let start = at-is-strange .before in
-    let known = sym (at-is-strange .is-strange .ensures) ∙ c .if1 .left in
-    sym (swept-record (start .args .k) (start .args .w) _ (search needs) known (c .before .sweep-word .ensures known))
+    let start = c .before .before .before .before in
+    let known = ap isStrange (sym (c .before .before .before .state-of .ensures .1)) ∙ sym (c .before .is-strange .ensures) ∙ c .if1 .left in
+    rw known (c .before .before .swept .ensures known (c .before .before .before .state-of .ensures .0 ∙ read-number (start .args .w) known))
 
 pub sweep-words-spec : {M : Type 1} → statement M
-sweep-words-spec =
-    tie.close
-    (tie.spec
-    is-strange-requires
-    sweep-word-requires
-    returns
-    returns-2)
+sweep-words-spec = tie.close (tie.spec state-of-requires swept-requires is-strange-requires returns returns-2)

@@ -46,19 +46,4 @@ returns : tie.Need-returns Inv-loop μ-loop
 returns c = search needs
 
 pub digest-spec : {M : Type 1} → statement M
-digest-spec =
-    tie.close
-    (tie.spec
-    Inv-loop
-    μ-loop
-    loop-holds
-    mul-w
-    shared-slice-read-w
-    mul-d
-    mul-d-2
-    add-d
-    add-d-2
-    add-i
-    loop-less
-    loop-again
-    returns)
+digest-spec = tie.close (tie.spec Inv-loop μ-loop loop-holds mul-w shared-slice-read-w mul-d mul-d-2 add-d add-d-2 add-i loop-less loop-again returns)

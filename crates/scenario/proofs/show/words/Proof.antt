@@ -38,17 +38,4 @@ returns : tie.Need-returns Inv-loop μ-loop
 returns c = search needs
 
 pub words-spec : {M : Type 1} → statement M
-words-spec =
-    tie.close
-    (tie.spec
-    Inv-loop
-    μ-loop
-    loop-holds
-    mul-word
-    shared-slice-read-word
-    word-requires
-    add-i
-    loop-less
-    loop-again
-    end-requires
-    returns)
+words-spec = tie.close (tie.spec Inv-loop μ-loop loop-holds mul-word shared-slice-read-word word-requires add-i loop-less loop-again end-requires returns)

@@ -15,9 +15,4 @@ returns-2 : tie.Need-returns-2
 returns-2 c = search needs
 
 pub is-usable-spec : {M : Type 1} → statement M
-is-usable-spec =
-    tie.close
-    (tie.spec
-    returns
-    add-result
-    returns-2)
+is-usable-spec = tie.close (tie.spec returns add-result returns-2)

@@ -29,11 +29,4 @@ returns c =
     rw (at-second .put-half2 .ensures, at-first .put-half .ensures, four)
 
 pub put-word-spec : {M : Type 1} → statement M
-put-word-spec =
-    tie.close
-    (tie.spec
-    put-half-requires
-    add-put-half
-    put-half-requires-2
-    same-length
-    returns)
+put-word-spec = tie.close (tie.spec put-half-requires add-put-half put-half-requires-2 same-length returns)

@@ -21,11 +21,4 @@ unfolding fits
 returns c = rw (← c .before .before .before .are-streams .ensures)
 
 pub is-session-spec : {M : Type 1} → statement M
-is-session-spec =
-    tie.close
-    (tie.spec
-    are-streams-requires
-    shared-slice-read-result
-    shared-slice-read-result-2
-    shared-slice-read-result-3
-    returns)
+is-session-spec = tie.close (tie.spec are-streams-requires shared-slice-read-result shared-slice-read-result-2 shared-slice-read-result-3 returns)

@@ -16,10 +16,4 @@ returns-4 : tie.Need-returns-4
 returns-4 c = rw (ne-eqb _ _ (c .before .before .if1 .left), ne-eqb _ _ (c .before .if2 .left), ne-eqb _ _ (c .if3 .left))
 
 pub phase-of-spec : {M : Type 1} → statement M
-phase-of-spec =
-    tie.close
-    (tie.spec
-    returns
-    returns-2
-    returns-3
-    returns-4)
+phase-of-spec = tie.close (tie.spec returns returns-2 returns-3 returns-4)

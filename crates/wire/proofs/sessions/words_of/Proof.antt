@@ -1,7 +1,7 @@
 -- The definition's words, each by the function that gives it.
 use borrow.Author.Needs.{needs}
 use mathlib.Core.Path.{refl, ap, _∙_}
-use Rattle.wire.specs.Sessions.{runWords, sessionWords}
+use Rattle.wire.specs.Sessions.{workWords, sessionWords}
 use Rattle.wire.proofs.SessionLaws.{own-then, stream-then}
 use Rattle.wire.proofs.sessions.words_of.Statement.{statement}
 use Rattle.wire.proofs.sessions.words_of.Tie as tie
@@ -15,50 +15,50 @@ bit-of-requires c κs = search needs
 bit-of-requires-2 : tie.Need-bit-of-requires-2
 bit-of-requires-2 c κs = search needs
 
-run-of-requires : tie.Need-run-of-requires
-run-of-requires c κs = search needs
+work-of-requires : tie.Need-work-of-requires
+work-of-requires c κs = search needs
 
 stream-words-requires : tie.Need-stream-words-requires
 stream-words-requires c κs = search needs
 
-run-of-requires-2 : tie.Need-run-of-requires-2
-run-of-requires-2 c κs = search needs
+work-of-requires-2 : tie.Need-work-of-requires-2
+work-of-requires-2 c κs = search needs
 
 stream-words-requires-2 : tie.Need-stream-words-requires-2
 stream-words-requires-2 c κs = search needs
 
-run-of-requires-3 : tie.Need-run-of-requires-3
-run-of-requires-3 c κs = search needs
+work-of-requires-3 : tie.Need-work-of-requires-3
+work-of-requires-3 c κs = search needs
 
 stream-words-requires-3 : tie.Need-stream-words-requires-3
 stream-words-requires-3 c κs = search needs
 
-run-of-requires-4 : tie.Need-run-of-requires-4
-run-of-requires-4 c κs = search needs
+work-of-requires-4 : tie.Need-work-of-requires-4
+work-of-requires-4 c κs = search needs
 
 stream-words-requires-4 : tie.Need-stream-words-requires-4
 stream-words-requires-4 c κs = search needs
 
-run-of-requires-5 : tie.Need-run-of-requires-5
-run-of-requires-5 c κs = search needs
+work-of-requires-5 : tie.Need-work-of-requires-5
+work-of-requires-5 c κs = search needs
 
 stream-words-requires-5 : tie.Need-stream-words-requires-5
 stream-words-requires-5 c κs = search needs
 
-run-of-requires-6 : tie.Need-run-of-requires-6
-run-of-requires-6 c κs = search needs
+work-of-requires-6 : tie.Need-work-of-requires-6
+work-of-requires-6 c κs = search needs
 
 stream-words-requires-6 : tie.Need-stream-words-requires-6
 stream-words-requires-6 c κs = search needs
 
-run-of-requires-7 : tie.Need-run-of-requires-7
-run-of-requires-7 c κs = search needs
+work-of-requires-7 : tie.Need-work-of-requires-7
+work-of-requires-7 c κs = search needs
 
 stream-words-requires-7 : tie.Need-stream-words-requires-7
 stream-words-requires-7 c κs = search needs
 
-run-of-requires-8 : tie.Need-run-of-requires-8
-run-of-requires-8 c κs = search needs
+work-of-requires-8 : tie.Need-work-of-requires-8
+work-of-requires-8 c κs = search needs
 
 stream-words-requires-8 : tie.Need-stream-words-requires-8
 stream-words-requires-8 c κs = search needs
@@ -76,14 +76,14 @@ returns c =
     let at-0 = at-1 .before .before in
     let at-own = at-0 .before .before in
     own-then (at-own .before .before .number-of .ensures) (at-own .before .bit-of .ensures) (at-own .bit-of2 .ensures)
-    (stream-then (at-0 .stream-words .ensures ∙ ap runWords (at-0 .before .run-of .ensures))
-    (stream-then (at-1 .stream-words2 .ensures ∙ ap runWords (at-1 .before .run-of2 .ensures))
-    (stream-then (at-2 .stream-words3 .ensures ∙ ap runWords (at-2 .before .run-of3 .ensures))
-    (stream-then (at-3 .stream-words4 .ensures ∙ ap runWords (at-3 .before .run-of4 .ensures))
-    (stream-then (at-4 .stream-words5 .ensures ∙ ap runWords (at-4 .before .run-of5 .ensures))
-    (stream-then (at-5 .stream-words6 .ensures ∙ ap runWords (at-5 .before .run-of6 .ensures))
-    (stream-then (at-6 .stream-words7 .ensures ∙ ap runWords (at-6 .before .run-of7 .ensures))
-    (stream-then (at-7 .stream-words8 .ensures ∙ ap runWords (at-7 .before .run-of8 .ensures))
+    (stream-then (at-0 .stream-words .ensures ∙ ap workWords (at-0 .before .work-of .ensures))
+    (stream-then (at-1 .stream-words2 .ensures ∙ ap workWords (at-1 .before .work-of2 .ensures))
+    (stream-then (at-2 .stream-words3 .ensures ∙ ap workWords (at-2 .before .work-of3 .ensures))
+    (stream-then (at-3 .stream-words4 .ensures ∙ ap workWords (at-3 .before .work-of4 .ensures))
+    (stream-then (at-4 .stream-words5 .ensures ∙ ap workWords (at-4 .before .work-of5 .ensures))
+    (stream-then (at-5 .stream-words6 .ensures ∙ ap workWords (at-5 .before .work-of6 .ensures))
+    (stream-then (at-6 .stream-words7 .ensures ∙ ap workWords (at-6 .before .work-of7 .ensures))
+    (stream-then (at-7 .stream-words8 .ensures ∙ ap workWords (at-7 .before .work-of8 .ensures))
     refl))))))))
 
 pub words-of-spec : {M : Type 1} → statement M
@@ -93,20 +93,20 @@ words-of-spec =
     number-of-requires
     bit-of-requires
     bit-of-requires-2
-    run-of-requires
+    work-of-requires
     stream-words-requires
-    run-of-requires-2
+    work-of-requires-2
     stream-words-requires-2
-    run-of-requires-3
+    work-of-requires-3
     stream-words-requires-3
-    run-of-requires-4
+    work-of-requires-4
     stream-words-requires-4
-    run-of-requires-5
+    work-of-requires-5
     stream-words-requires-5
-    run-of-requires-6
+    work-of-requires-6
     stream-words-requires-6
-    run-of-requires-7
+    work-of-requires-7
     stream-words-requires-7
-    run-of-requires-8
+    work-of-requires-8
     stream-words-requires-8
     returns)

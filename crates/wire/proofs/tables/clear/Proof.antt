@@ -46,15 +46,4 @@ returns c =
     rw (← whole, ← all) (c .before .loop .inv .1)
 
 pub clear-spec : {M : Type 1} → statement M
-clear-spec =
-    tie.close
-    (tie.spec
-    Inv-loop
-    μ-loop
-    loop-holds
-    slice-write-b
-    add-i
-    loop-less
-    loop-again
-    same-length
-    returns)
+clear-spec = tie.close (tie.spec Inv-loop μ-loop loop-holds slice-write-b add-i loop-less loop-again same-length returns)

@@ -13,8 +13,4 @@ unfolding some
 returns c = rw (c .find .ensures, page-count)
 
 pub has-spec : {M : Type 1} → statement M
-has-spec =
-    tie.close
-    (tie.spec
-    find-requires
-    returns)
+has-spec = tie.close (tie.spec find-requires returns)

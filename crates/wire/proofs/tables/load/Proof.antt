@@ -48,13 +48,4 @@ returns-2 : tie.Need-returns-2
 returns-2 c = rw (past _ _ (c .if1 .left))
 
 pub load-spec : {M : Type 1} → statement M
-load-spec =
-    tie.close
-    (tie.spec
-    mul-word-at
-    word-at-requires
-    mul-word-at-2
-    add-word-at
-    word-at-requires-2
-    returns
-    returns-2)
+load-spec = tie.close (tie.spec mul-word-at word-at-requires mul-word-at-2 add-word-at word-at-requires-2 returns returns-2)

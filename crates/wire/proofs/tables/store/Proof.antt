@@ -35,14 +35,4 @@ unfolding putPage
 returns-2 c = rw (le-ltb _ _ (c .if1 .left))
 
 pub store-spec : {M : Type 1} → statement M
-store-spec =
-    tie.close
-    (tie.spec
-    mul-put-word
-    put-word-requires
-    mul-put-word-2
-    add-put-word
-    put-word-requires-2
-    same-length
-    returns
-    returns-2)
+store-spec = tie.close (tie.spec mul-put-word put-word-requires mul-put-word-2 add-put-word put-word-requires-2 same-length returns returns-2)

@@ -1,19 +1,20 @@
--- After i rounds the words are the sweep of the first i pages, and in the end the bytes are those of the words.
+-- After i rounds the words are the sweep of their first i pages, after all rounds of all of them (`sweep-first`); and the bytes are those of the words.
 use borrow.Author.Needs.{needs}
 use mathlib.Core.Path.{_≡_, refl, sym, ap, _∙_}
 use Prim.Native.Nat.{_≤_, _-_, _/_}
 use native.Mathlib.Numerals.{add-one}
 use native.Mathlib.Omega.{arith}
 use lib.ListN.{length}
-use Rattle.page.specs.Sweeps.{sweptBy, sweptWords}
-use Rattle.table.specs.Table.{sweepOf}
+use Rattle.page.specs.Page.{onWords}
+use Rattle.page.specs.Sweeps.{sweptBy}
+use Rattle.table.proofs.Laws.{sweepFirst, sweep-first}
 use Rattle.wire.specs.Bytes.{wordsOf, bytesOf, Bytes}
 use Rattle.wire.proofs.BytesLaws.{bytes-back, words-put, page-count}
 use Rattle.wire.proofs.tables.sweep_all.Statement.{statement}
 use Rattle.wire.proofs.tables.sweep_all.Tie as tie
 
 abbrev Inv-loop : tie.InvT-loop
-Inv-loop b₀ k n i₀ b i = (i ≤ n) × (wordsOf b ≡ sweepOf (sweptWords (sweptBy k)) i (wordsOf b₀)) × (length b ≡ length b₀) × Bytes b
+Inv-loop b₀ k n i₀ b i = (i ≤ n) × (wordsOf b ≡ sweepFirst (onWords (sweptBy k)) i (wordsOf b₀)) × (length b ≡ length b₀) × Bytes b
 
 abbrev μ-loop : tie.MeasureT-loop
 μ-loop b₀ k n i₀ b i = n - i
@@ -58,7 +59,7 @@ returns : tie.Need-returns Inv-loop μ-loop
 returns c =
     let b₀ = c .before .before .before .args .b .now in
     let end : c .before .loop .i ≡ length b₀ / 16 = omega arith in
-    rw (page-count b₀, ← end) (sym (bytes-back (c .before .loop .b) (c .before .loop .inv .3) (omega arith)) ∙ ap bytesOf (c .before .loop .inv .1))
+    rw (← sweep-first (onWords (sweptBy (c .before .before .before .args .k))) (wordsOf b₀), page-count b₀, ← end) (sym (bytes-back (c .before .loop .b) (c .before .loop .inv .3) (omega arith)) ∙ ap bytesOf (c .before .loop .inv .1))
 
 pub sweep-all-spec : {M : Type 1} → statement M
 sweep-all-spec =

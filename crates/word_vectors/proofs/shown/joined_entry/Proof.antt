@@ -10,7 +10,7 @@ entry-of-requires : tie.Need-entry-of-requires
 entry-of-requires c κs = search needs
 
 entry-word-requires : tie.Need-entry-word-requires
-entry-word-requires c κs = c .entry-of .ensures .1
+entry-word-requires c κs = search needs
 
 returns : tie.Need-returns
 returns c =

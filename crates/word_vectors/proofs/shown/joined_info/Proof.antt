@@ -10,7 +10,7 @@ info-of-requires : tie.Need-info-of-requires
 info-of-requires c κs = search needs
 
 info-word-requires : tie.Need-info-word-requires
-info-word-requires c κs = c .info-of .ensures .1
+info-word-requires c κs = search needs
 
 returns : tie.Need-returns
 returns c =

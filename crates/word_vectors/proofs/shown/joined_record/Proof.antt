@@ -1,8 +1,8 @@
--- What was read is written: the law of `words`.
+-- What was read is written: the law of `records`.
 use mathlib.Core.Path.{ap, _∙_}
 use borrow.Author.Needs.{needs}
-use Rattle.words.specs.Record.{recordWord}
-use Rattle.words.proofs.RecordLaws.{word-record}
+use Rattle.records.specs.Record.{recordWord}
+use Rattle.records.proofs.RecordLaws.{word-record}
 use Rattle.word_vectors.proofs.shown.joined_record.Statement.{statement}
 use Rattle.word_vectors.proofs.shown.joined_record.Tie as tie
 
@@ -10,7 +10,7 @@ record-of-requires : tie.Need-record-of-requires
 record-of-requires c κs = search needs
 
 record-word-requires : tie.Need-record-word-requires
-record-word-requires c κs = c .record-of .ensures .1
+record-word-requires c κs = search needs
 
 returns : tie.Need-returns
 returns c =

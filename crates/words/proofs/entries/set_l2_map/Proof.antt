@@ -8,7 +8,7 @@ use Rattle.words.proofs.entries.set_l2_map.Tie as tie
 
 returns : tie.Need-returns
 unfolding entryOf
-returns c = set-code entry 4 (c .args .w) (lit< tt) (c .pre)
+returns c = set-code entry 4 (c .args .w) (c .args .v) (lit< tt)
 
 pub set-l2-map-spec : {M : Type 1} → statement M
 set-l2-map-spec = tie.close (tie.spec returns)

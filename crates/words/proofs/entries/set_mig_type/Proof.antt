@@ -8,7 +8,7 @@ use Rattle.words.proofs.entries.set_mig_type.Tie as tie
 
 returns : tie.Need-returns
 unfolding entryOf
-returns c = set-code entry 5 (c .args .w) (lit< tt) (c .pre)
+returns c = set-code entry 5 (c .args .w) (c .args .v) (lit< tt)
 
 pub set-mig-type-spec : {M : Type 1} → statement M
 set-mig-type-spec = tie.close (tie.spec returns)

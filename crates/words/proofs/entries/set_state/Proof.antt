@@ -8,7 +8,7 @@ use Rattle.words.proofs.entries.set_state.Tie as tie
 
 returns : tie.Need-returns
 unfolding entryOf
-returns c = set-code entry 2 (c .args .w) (lit< tt) (c .pre)
+returns c = set-code entry 2 (c .args .w) (c .args .v) (lit< tt)
 
 pub set-state-spec : {M : Type 1} → statement M
 set-state-spec = tie.close (tie.spec returns)

@@ -8,7 +8,7 @@ use Rattle.words.proofs.entries.set_status.Tie as tie
 
 returns : tie.Need-returns
 unfolding entryOf
-returns c = set-code entry 9 (c .args .w) (lit< tt) (c .pre)
+returns c = set-code entry 9 (c .args .w) (c .args .v) (lit< tt)
 
 pub set-status-spec : {M : Type 1} → statement M
 set-status-spec = tie.close (tie.spec returns)

@@ -8,7 +8,7 @@ use Rattle.words.proofs.infos.set_last.Tie as tie
 
 returns : tie.Need-returns
 unfolding infoOf
-returns c = set-code info 4 (c .args .w) (lit< tt) (c .pre)
+returns c = set-code info 4 (c .args .w) (c .args .v) (lit< tt)
 
 pub set-last-spec : {M : Type 1} → statement M
 set-last-spec = tie.close (tie.spec returns)
