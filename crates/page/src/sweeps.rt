@@ -54,9 +54,8 @@ pub fn sweep_words(k: Sweep, w: PageWords) -> PageWords
     ensures { λ r. ⌜ r ≡ onWords (sweptBy k) w ⌝ }
 {
     let n = crate::state_of(w);
-    let after = swept(k, w, n);
     if states::is_strange(n) {
         return w;
     }
-    after
+    swept(k, w, n)
 }
