@@ -11,10 +11,11 @@ use Rattle.refusals.proofs.Laws.{allCodes, first-all}
 use Rattle.page.specs.Page.{Page, onWords}
 use Rattle.page.specs.Moves.{moveTests}
 use Rattle.page.specs.Sweeps.{uncached, started, aborted}
+use Rattle.page.specs.declared.Clock.{Clock}
 use Rattle.page.specs.declared.moves.Move.{Move}
 use Rattle.page.specs.declared.moves.Move.the-variants as move
 use Rattle.table.specs.Table.{legal, pageCount, pageAt, sweepOf}
-use Rattle.session.specs.Session.{guest, moving, newSession, withTlb, withEpoch, withPhase, withCheck, unchecked, begun}
+use Rattle.session.specs.Session.{guest, moving, newSession, ticked, withClock, withEpoch, withPhase, withCheck, unchecked, begun}
 use Rattle.session.specs.Formed.{within, fewestCreated, mostCreated, gateTests, gated}
 use Rattle.session.specs.Outcome.{Outcome, answered, answeredBy}
 use Rattle.session.proofs.Laws.{answered-either}
@@ -47,17 +48,17 @@ answered-named code s t s' t' h =
 all-named : (f : Page → Page) (code : ℕ) (s s' : Session) (t : List ℕ) → named code ≡ true → named (answeredBy f code s s' t .answer .code) ≡ true
 all-named f code s s' t h = answered-named code s t s' (sweepOf (onWords f) t) h
 
-moves-named : (m : Move) (p : Page) (tlb : ℕ) → allCodes named (moveTests m p tlb) ≡ true
-moves-named (move.Write mark) p tlb = refl
-moves-named move.Add p tlb = refl
-moves-named move.Accept p tlb = refl
-moves-named move.Block p tlb = refl
-moves-named move.Unblock p tlb = refl
-moves-named move.Remove p tlb = refl
+moves-named : (m : Move) (p : Page) (clock : Clock) → allCodes named (moveTests m p clock) ≡ true
+moves-named (move.Write mark) p clock = refl
+moves-named move.Add p clock = refl
+moves-named move.Accept p clock = refl
+moves-named move.Block p clock = refl
+moves-named move.Unblock p clock = refl
+moves-named move.Remove p clock = refl
 
 page-named : (m : Move) (s : Session) (t : List ℕ) (at : ℕ) → named (onPage m s t at .answer .code) ≡ true
 page-named m s t at =
-    rw (page-code m s t at) (first-all named (pageTests m s (length t) at (pageAt t at)) refl (moves-named m (pageAt t at) (s .tlb)))
+    rw (page-code m s t at) (first-all named (pageTests m s (length t) at (pageAt t at)) refl (moves-named m (pageAt t at) (s .clock)))
 
 scans-named : OfScans named
 scans-named = record { done = refl; interrupted = refl; full = refl; complete = refl; blocked = refl }
@@ -73,7 +74,7 @@ module _ (s : Session) (t l b : List ℕ) where
   code-named (Block page) = page-named move.Block s t page
   code-named (Unblock page) = page-named move.Unblock s t page
   code-named (Remove page) = page-named move.Remove s t page
-  code-named Track = all-named uncached (trackCode s (length t)) s (withTlb s (s .tlb + 1)) t (gated-named s (length t) guest (trackTests s) refl)
+  code-named Track = all-named uncached (trackCode s (length t)) s (withClock s (ticked (s .clock))) t (gated-named s (length t) guest (trackTests s) refl)
   code-named Start = all-named started (startCode s t) s (begun s phase.Live 1) t (gated-named s (length t) (phase.Idle ∷ []) _ refl)
   code-named Pause = all-named uncached (pauseCode s t) s (withPhase s phase.Blackout) t (gated-named s (length t) (phase.Live ∷ []) _ refl)
   code-named Abort = all-named aborted (abortCode s (length t)) s (begun s phase.Idle 0) t (gated-named s (length t) moving [] refl)
@@ -86,7 +87,7 @@ module _ (s : Session) (t l b : List ℕ) where
       (gated-named s (length t) (phase.Live ∷ []) (dscanTests s (length l) first count) refl)
   code-named (Dcheck budget) =
       dcheck-either s t l budget (λ (o : ScanOutcome). named (o .answer .code) ≡ true)
-      (λ e. range-code named scans-named (s .pages - s .check .place) (dcheckOf s budget) t l (checkedBy s (dchecked s t l budget .scanned)))
+      (λ e. range-code named scans-named (s .fixed .pages - s .check .place) (dcheckOf s budget) t l (checkedBy s (dchecked s t l budget .scanned)))
       (gated-named s (length t) (phase.Blackout ∷ []) (dcheckTests s (length l)) refl)
   code-named (Export stream resume info budget) =
       export-either (λ (o : ExportOutcome). named (o .answer .code) ≡ true) s t l b stream resume info budget

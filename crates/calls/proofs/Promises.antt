@@ -20,7 +20,7 @@ use Rattle.page.specs.declared.moves.Move.{Move}
 use Rattle.page.specs.declared.moves.Move.the-variants as move
 use Rattle.table.specs.Table.{pageCount, wordsAt, pageAt, putAt, sweepOf}
 use Rattle.table.proofs.Laws.{put-other, put-back, sweep-at, sweep-past, page-swept}
-use Rattle.session.specs.Session.{newSession, withTlb, withEpoch, withPhase, withCheck, unchecked, begun}
+use Rattle.session.specs.Session.{newSession, ticked, withClock, withEpoch, withPhase, withCheck, unchecked, begun}
 use Rattle.session.specs.Outcome.{Outcome, answered, answeredBy}
 use Rattle.session.proofs.Laws.{answered-either, answered-words}
 use Rattle.session.specs.declared.Session.{Session}
@@ -113,7 +113,7 @@ module _ (s : Session) (t l b : List ℕ) where
   keeps (Block page) r = plain-kept (blockOut s t page) (page-keeps move.Block s t page r)
   keeps (Unblock page) r = plain-kept (unblockOut s t page) (page-keeps move.Unblock s t page r)
   keeps (Remove page) r = plain-kept (removeOut s t page) (page-keeps move.Remove s t page r)
-  keeps Track r = plain-kept (trackOut s t) (all-keeps uncached (trackCode s (length t)) s (withTlb s (s .tlb + 1)) t r)
+  keeps Track r = plain-kept (trackOut s t) (all-keeps uncached (trackCode s (length t)) s (withClock s (ticked (s .clock))) t r)
   keeps Start r = plain-kept (startOut s t) (all-keeps started (startCode s t) s (begun s phase.Live 1) t r)
   keeps Pause r = plain-kept (pauseOut s t) (all-keeps uncached (pauseCode s t) s (withPhase s phase.Blackout) t r)
   keeps Abort r = plain-kept (abortOut s t) (all-keeps aborted (abortCode s (length t)) s (begun s phase.Idle 0) t r)
@@ -127,7 +127,7 @@ module _ (s : Session) (t l b : List ℕ) where
       r
   keeps (Dcheck budget) r =
       dcheck-either s t l budget (λ (o : ScanOutcome). refusal (o .answer .code) ≡ true → Kept s t l b (scanEffect o b))
-      (λ e x. absurd (no-refusal _ (range-code ran scans-ran (s .pages - s .check .place) (dcheckOf s budget) t l (checkedBy s (dchecked s t l budget .scanned))) x))
+      (λ e x. absurd (no-refusal _ (range-code ran scans-ran (s .fixed .pages - s .check .place) (dcheckOf s budget) t l (checkedBy s (dchecked s t l budget .scanned))) x))
       (λ x. as-came _ 0 s t refl refl)
       r
   keeps (Export stream resume info budget) r =
@@ -164,7 +164,7 @@ page-strange : (m : Move) (s : Session) (t : List ℕ) (at i : ℕ) → strange 
 page-strange m s t at i e = page-either m s t at (λ (o : Outcome). wordsAt (o .table) i ≡ wordsAt t i) (λ d. go (eqb i at) refl) (λ q. refl)
   where
     f : Page → Page
-    f = movedBy m (s .tlb)
+    f = movedBy m (s .clock)
 
     go : (b : Bool) → eqb i at ≡ b → wordsAt (putAt t at (onWords f (wordsAt t at))) i ≡ wordsAt t i
     go true q =
@@ -193,7 +193,7 @@ module _ (s : Session) (t l b : List ℕ) (i : ℕ) (e : strange (pageAt t i) �
   strange-words (Block page) n = page-strange move.Block s t page i e
   strange-words (Unblock page) n = page-strange move.Unblock s t page i e
   strange-words (Remove page) n = page-strange move.Remove s t page i e
-  strange-words Track n = all-strange uncached (trackCode s (length t)) s (withTlb s (s .tlb + 1)) t i e
+  strange-words Track n = all-strange uncached (trackCode s (length t)) s (withClock s (ticked (s .clock))) t i e
   strange-words Start n = all-strange started (startCode s t) s (begun s phase.Live 1) t i e
   strange-words Pause n = all-strange uncached (pauseCode s t) s (withPhase s phase.Blackout) t i e
   strange-words Abort n = all-strange aborted (abortCode s (length t)) s (begun s phase.Idle 0) t i e

@@ -10,6 +10,7 @@ use Rattle.page.specs.Page.{pageOf, strange}
 use Rattle.page.specs.Moves.{movedBy}
 use Rattle.page.specs.Page.{unlessStrange}
 use Rattle.page.specs.Sweeps.{sweptBy}
+use Rattle.page.specs.declared.Clock.{Clock}
 use Rattle.page.specs.declared.PageWords.{PageWords}
 use Rattle.page.specs.declared.moves.Move.{Move}
 use Rattle.page.specs.declared.sweeps.Sweep.{Sweep}
@@ -104,11 +105,11 @@ pub record StrangeStays : Type 0 where
 -- they were or as the look that listed it left them, and those are the words of `listedPage`. Both epochs of a session that passes 40 are below 2 ^ 16, as a
 -- record's are; and past its tests a scan's range lies within the table (`dscan-fits`, `dcheck-fits` in `scan`).
 pub record PagesMove : Type 0 where
-  pub one : (m : Move) (s : Session) (t : List ℕ) (at : ℕ) → onPage m s t at .answer .code ≡ 0 → pageAt (onPage m s t at .table) at ≡ movedBy m (s .tlb) (pageAt t at)
+  pub one : (m : Move) (s : Session) (t : List ℕ) (at : ℕ) → onPage m s t at .answer .code ≡ 0 → pageAt (onPage m s t at .table) at ≡ movedBy m (s .clock) (pageAt t at)
   pub others : (m : Move) (s : Session) (t : List ℕ) (at k : ℕ) → (k ≡ at → ⊥) → wordsAt (onPage m s t at .table) k ≡ wordsAt t k
   pub all : (k : Sweep) (s s' : Session) (t : List ℕ) (i : ℕ) → i < pageCount t → pageAt (answeredBy (sweptBy k) 0 s s' t .table) i ≡ unlessStrange (sweptBy k) (pageAt t i)
   pub entry : (g : Ground) (x : Standing) → g .epoch < 2 ^ 16 → gpaOf x < pageCount (x .table) → taking g x .status ≡ 0 → pageAt (stepped g x .table) (gpaOf x) ≡ exportedPage (g .epoch) (pageAt (x .table) (gpaOf x))
   pub failed : (g : Ground) (x : Standing) → (taking g x .status ≡ 0 → ⊥) → wordsAt (stepped g x .table) (gpaOf x) ≡ wordsAt (x .table) (gpaOf x)
   pub beside : (g : Ground) (x : Standing) (k : ℕ) → (k ≡ gpaOf x → ⊥) → wordsAt (stepped g x .table) k ≡ wordsAt (x .table) k
-  pub range : (count : ℕ) (scan : Scan) (t l : List ℕ) → 2 * scan .first + 2 * count ≤ length t → (k : ℕ) → LookedAt k (scan .tlb) (wordsAt t k) (wordsAt (rangeRun count scan t l .part) k)
-  pub look : (w : PageWords) (number tlb : ℕ) → tlb < 2 ^ 16 → pageOf (lookOf w number tlb .words) ≡ listedPage tlb (pageOf w)
+  pub range : (count : ℕ) (scan : Scan) (t l : List ℕ) → 2 * scan .first + 2 * count ≤ length t → (k : ℕ) → LookedAt k (scan .clock) (wordsAt t k) (wordsAt (rangeRun count scan t l .part) k)
+  pub look : (w : PageWords) (number : ℕ) (clock : Clock) → clock .tlb < 2 ^ 16 → pageOf (lookOf w number clock .words) ≡ listedPage clock (pageOf w)

@@ -32,7 +32,7 @@ unused = 5 ∷ 0 ∷ []
 
 -- an export that stands before an entry for page 0
 abbrev pub ground : Ground
-ground = record { phase = phase.Live; tlb = 2; epoch = 1; pages = 1 }
+ground = record { phase = phase.Live; clock = record { tlb = 2 }; epoch = 1; pages = 1 }
 
 abbrev pub export : List ℕ → Standing
 export t = standing (record { next = 0; errors = 0; filled = 0 }) t (0x0010000000000000 ∷ []) (0 ∷ [])
@@ -63,4 +63,4 @@ pub record Met : Type 0 where
   pub fails : taking ground unready .status ≡ 0 → ⊥
   pub beside : 1 ≡ gpaOf before → ⊥
   pub range : 2 * 0 + 2 * 1 ≤ length free
-  pub look : fresh .tlb < 2 ^ 16
+  pub look : fresh .clock .tlb < 2 ^ 16

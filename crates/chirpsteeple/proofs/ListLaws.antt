@@ -104,7 +104,7 @@ dcheck-comes budget =
           dcheck-either s t l budget (λ (o : ScanOutcome). before42 (o .answer .code) ≡ firstGroup s (length t) (Blackout ∷ []))
           (λ e.
           let next = checkedBy s (dchecked s t l budget .scanned) in
-          ran-place s (length t) (Blackout ∷ []) tests (ranScan next (dchecked s t l budget) .answer .code) refl (range-code later scans-later (s .pages - s .check .place) (dcheckOf s budget) t l next) e)
+          ran-place s (length t) (Blackout ∷ []) tests (ranScan next (dchecked s t l budget) .answer .code) refl (range-code later scans-later (s .fixed .pages - s .check .place) (dcheckOf s budget) t l next) e)
           (gate-place s (length t) (Blackout ∷ []) tests refl);
     }
 

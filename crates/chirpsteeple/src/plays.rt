@@ -70,8 +70,10 @@ pub fn put_session(session: &mut [u8], s: Session)
     requires { ⌜ length (now session) ≡ sessionBytes ⌝ }
     ensures { λ _. ⌜ now (session .exit) ≡ bytesOf (sessionWords s) ⌝ }
 {
-    let words = sessions::words_of(s);
-    bytes::encode(&words, session);
+    let mut room = [0u64; sessions::SESSION_WORDS];
+    let words: &mut [u64] = &mut room;
+    sessions::put_session(words, s);
+    bytes::encode(&words[..], session);
 }
 
 // The session that a call made, unless it refused.

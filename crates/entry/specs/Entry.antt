@@ -39,7 +39,7 @@ statusTests e p g =
     ∷ unexportable p gives statuses.septEntryStateIncorrect
     ∷ eqb (p .migrated) (g .epoch) gives statuses.migratedInCurrentEpoch
     ∷ (not (cancelled p) && p .dirty) gives statuses.pageDirty
-    ∷ (not (cancelled p) && among (Live ∷ []) (g .phase) && not (tracked (p .stamp) (g .tlb))) gives statuses.tlbTrackingNotDone
+    ∷ (not (cancelled p) && among (Live ∷ []) (g .phase) && not (tracked (p .stamp) (g .clock))) gives statuses.tlbTrackingNotDone
     ∷ []
 
 -- else status 0

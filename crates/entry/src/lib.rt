@@ -5,6 +5,7 @@ ghost use Rattle.states.specs.States.{numberOf, goesBy};
 ghost use Rattle.states.specs.Lists.{exports};
 ghost use Rattle.page.specs.Page.{pageOf, strange, wordsFor, onWords};
 ghost use Rattle.entry.specs.Entry.{invalid, unexportable, statusOf, answerWord, exportedPage, sentEntry, failedEntry, takenOf};
+use page::Clock;
 use page::PageWords;
 use page::queries;
 use session::Phase;
@@ -16,8 +17,7 @@ use words::statuses;
 // What an export is made against.
 pub struct Ground {
     pub phase: Phase,
-    // The TLB epoch.
-    pub tlb: u64,
+    pub clock: Clock,
     // The migration epoch.
     pub epoch: u64,
     // The page count.
@@ -64,7 +64,7 @@ fn status_of(e: Entry, w: PageWords, g: Ground) -> u64
     let p = records::record_of(w.word);
     let cancelled = states::is_cancelled(page::state_of(w));
     let comes = session::comes_in(phase);
-    let tracked = queries::is_tracked(p.stamp, g.tlb);
+    let tracked = queries::is_tracked(p.stamp, g.clock);
     let invalid = is_invalid(e);
     let skipped = e.operation == operations::NOP;
     let beyond = g.pages <= e.gpa;

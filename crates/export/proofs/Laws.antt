@@ -99,7 +99,7 @@ export-ready s len entries room stream resume x e =
     let o = gate-open s len moving (exportTests s entries room stream resume x) refl e in
     let f = formed-means s len (o .formed) in
     let p = o .passed in
-    let able : stream + 1 < s .created = ltb-true _ _ (not-false (usable s stream) (p .0)) in
+    let able : stream + 1 < s .fixed .created = ltb-true _ _ (not-false (usable s stream) (p .0)) in
     let low : stream < streamPlaces = omega (arith, able, f .created .high) in
     let few : entries ≤ mostEntries = leb-true _ _ (and-right (leb 1 entries) (leb entries mostEntries) (not-false (within 1 mostEntries entries) (p .1 .0))) in
     let inside : x .last < entries = leb-false _ _ (p .1 .1 .1 .1 .1 .0) in
@@ -107,7 +107,7 @@ export-ready s len entries room stream resume x e =
     let begun = go (workOf s stream) (rw here (f .streams stream low)) (p .1 .1 .1 .1 .1 .1 .0) (p .1 .1 .1 .1 .1 .1 .1 .0) in
     record { within = inside; same = eqb-true _ _ (not-false (eqb room entries) (p .1 .1 .0)); short = omega (arith, inside, few); ordered = begun .0; counts = begun .1 }
   where
-    go : (r : Work) → WorkFormed (among moving (s .phase)) (s .created) stream r → noResumption resume r x ≡ false → noNewCall resume r ≡ false → (begunBy r .next ≤ x .last) × Counts (begunBy r)
+    go : (r : Work) → WorkFormed (among moving (s .phase)) (s .fixed .created) stream r → noResumption resume r x ≡ false → noNewCall resume r ≡ false → (begunBy r .next ≤ x .last) × Counts (begunBy r)
     go AtRest w a b = (omega arith, record { errors = omega arith; filled = omega arith })
     go (Interrupted next last errors filled) w a b =
         let y : x .last ≡ last = eqb-true _ _ (and-right (eqb (x .first) next) (eqb (x .last) last) (resumed resume (eqb (x .first) next && eqb (x .last) last) a b)) in

@@ -70,7 +70,7 @@ exportCode s len entries room stream resume x = gated s len moving (exportTests 
 -- ---- the call
 
 unfoldable pub groundOf : Session → Ground
-groundOf s = record { phase = s .phase; tlb = s .tlb; epoch = s .epoch; pages = s .pages }
+groundOf s = record { phase = s .phase; clock = s .clock; epoch = s .epoch; pages = s .fixed .pages }
 
 -- a new call begins at entry 0 with no counts; a resumed one goes on
 abbrev pub begunBy : Work → Progress

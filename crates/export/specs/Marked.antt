@@ -36,7 +36,7 @@ withStamp p stamp = record { state = p .state; dirty = p .dirty; cached = p .cac
 
 -- 4,096 pages, migration epoch 1
 abbrev pub on : Phase → ℕ → Ground
-on phase tlb = record { phase = phase; tlb = tlb; epoch = 1; pages = 4096 }
+on phase tlb = record { phase = phase; clock = record { tlb = tlb }; epoch = 1; pages = 4096 }
 
 -- what a line does not say is open: the page is any, with its stamp, and phase and TLB epoch are any
 abbrev pub markedLines : Page → Phase → ℕ → List Line

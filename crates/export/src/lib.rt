@@ -102,11 +102,12 @@ fn ground_of(s: Session) -> Ground
     ensures { λ r. ⌜ r ≡ groundOf s ⌝ }
 {
     let phase = s.phase;
+    let clock = s.clock;
     Ground {
         phase,
-        tlb: s.tlb,
+        clock,
         epoch: s.epoch,
-        pages: s.pages as u64,
+        pages: s.fixed.pages as u64,
     }
 }
 

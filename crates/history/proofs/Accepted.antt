@@ -75,7 +75,7 @@ run-comes : (n : ℕ) (scan : Scan) (i put : ℕ) (part list : List ℕ) → Com
 unfolding scanRun stopCode
 run-comes zero scan i put part list = record { next = omega arith; complete = λ q. omega arith }
 run-comes (suc n) scan i put part list =
-    let f = lookOf (wordsAt part i) (scan .first + i) (scan .tlb) in
+    let f = lookOf (wordsAt part i) (scan .first + i) (scan .clock) in
     let there : scan .first + (i + 1) + n ≡ scan .first + i + suc n = omega arith in
     let other : not (eqb (stopCode scan (f .blocked) (f .listed) i put (length list)) codes.checkComplete) ≡ true
     = first-all (λ (m : ℕ). not (eqb m codes.checkComplete)) (stopTests scan (f .blocked) (f .listed) i put (length list)) refl refl in
@@ -89,9 +89,9 @@ check-made s t l budget e =
     let o = gate-open s (length t) (Blackout ∷ []) (dcheckTests s (length l)) refl e in
     let f = formed-means s (length t) (o .formed) in
     let g = dchecked s t l budget .scanned in
-    let count = s .pages - s .check .place in
+    let count = s .fixed .pages - s .check .place in
     let c = run-comes count (dcheckOf s budget) 0 0 (partOf t (s .check .place) count) l in
-    let end : s .check .place + 0 + count ≡ s .pages = omega (arith, f .place) in
+    let end : s .check .place + 0 + count ≡ s .fixed .pages = omega (arith, f .place) in
     check-formed f (checkedBy s g .check)
     (record {
       place = omega (arith, c .next, end);
@@ -116,7 +116,7 @@ export-made s t l b stream resume info budget e =
     let x = infoOf info in
     let o = gate-open s (length t) moving (exportTests s (length l) (length b) stream resume x) refl e in
     let f = formed-means s (length t) (o .formed) in
-    let able : stream + 1 < s .created = ltb-true _ _ (not-false (usable s stream) (o .passed .0)) in
+    let able : stream + 1 < s .fixed .created = ltb-true _ _ (not-false (usable s stream) (o .passed .0)) in
     let low : stream < streamPlaces = omega (arith, able, f .created .high) in
     let r = export-ready s (length t) (length l) (length b) stream resume x e in
     let at = exported s t l b stream info budget .at in

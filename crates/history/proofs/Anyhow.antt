@@ -13,6 +13,7 @@ use borrow.Author.Tests.{eqb-true}
 use Rattle.words.specs.Info.{infoOf}
 use Rattle.refusals.proofs.Laws.{either}
 use Rattle.table.specs.Table.{pageCount, pageAt}
+use Rattle.session.specs.Session.{withStreams}
 use Rattle.session.specs.Formed.{formed, busy}
 use Rattle.session.specs.declared.Phase.the-variants.{Blackout}
 use Rattle.session.specs.declared.Session.{Session}
@@ -26,7 +27,7 @@ use Rattle.calls.specs.Calls.{exportNumbers}
 use Rattle.history.specs.History.{World, cameTo, after}
 use Rattle.history.specs.Earning.{granted, Exporting, exporting, exportingAll, took, tookAll}
 use Rattle.history.proofs.Formed.{formed-after}
-use Rattle.history.proofs.Exports.{ran-came, none-came, withStreams, finished-streams}
+use Rattle.history.proofs.Exports.{ran-came, none-came, finished-streams}
 use Rattle.history.proofs.Waiting.{Names, Listed, Left, Named}
 use Rattle.history.proofs.Ahead.{Ahead, Waits, waits-map, place-of, none-ahead, Along, call-along}
 

@@ -25,7 +25,7 @@ use Rattle.scan.specs.Scan.{dcheckOut}
 use Rattle.calls.specs.declared.Call.the-variants.{NewEpoch, Reset}
 use Rattle.history.specs.History.{given, World, effectIn, after}
 use Rattle.history.specs.Earning.{Paused, reset, nextEpoch, Ask, Fair, Full, entriesOf, withList, Checked, asking, checked, complete, mostLists}
-use Rattle.history.proofs.Pages.{clockOf}
+use Rattle.history.proofs.Pages.{momentOf}
 use Rattle.history.proofs.Formed.{formed-after, streams-after}
 use Rattle.history.proofs.Sound.{Sound, sound-after, sound-ok}
 use Rattle.history.proofs.Waiting.{Left}
@@ -49,7 +49,7 @@ record Mid (w : World) (n c : ℕ) (ls : List (List ℕ)) : Type 0 where
 mid-calm : (w : World) (n c : ℕ) (ls : List (List ℕ)) → Mid w n c ls → (k : ℕ) → k < pageCount (w .table) → Calm (pageAt (w .table) k)
 mid-calm w n c ls m k l =
     let x = sound-ok w (m .sound) k l in
-    paused-calm (clockOf (w .session)) (pageAt (w .table) k) (x .0) (m .between .phase) (x .1)
+    paused-calm (momentOf (w .session)) (pageAt (w .table) k) (x .0) (m .between .phase) (x .1)
 
 asked-mid : (w : World) (n c : ℕ) (ls : List (List ℕ)) (a : Ask) → Mid w n c ls → Mid (after w (asking a)) n c (ls ++ withList (entriesOf (effectIn w (asking a))) [])
 asked-mid w n c ls a m =
@@ -126,7 +126,7 @@ reset-makes s t f p =
     let z : resetCode s (length t) ≡ 0 = open-gate s (length t) moving [] (record { formed = f; comes = rw p; passed = tt }) in
     rw z
 
-reset-mid : (w : World) → Sound w → formed (w .session) (length (w .table)) ≡ true → Paused w → Mid (reset w) (w .session .pages) (w .session .created) []
+reset-mid : (w : World) → Sound w → formed (w .session) (length (w .table)) ≡ true → Paused w → Mid (reset w) (w .session .fixed .pages) (w .session .fixed .created) []
 unfolding busy
 reset-mid w sound f p =
     record {
@@ -148,21 +148,21 @@ reset-mid w sound f p =
 
 module _ (w : World) (sound : Sound w) (f : formed (w .session) (length (w .table)) ≡ true) (p : Paused w) (asks : List Ask) where
   -- DCHECKs that get on by d pages each come to the end, if there are enough of them
-  enough-end : (d : ℕ) → ((a : Ask) → List·Memᴰ a asks → Enough d (w .session .pages) a) → w .session .pages ≤ length asks * d → complete (checked (reset w) asks .world) ≡ true
+  enough-end : (d : ℕ) → ((a : Ask) → List·Memᴰ a asks → Enough d (w .session .fixed .pages) a) → w .session .fixed .pages ≤ length asks * d → complete (checked (reset w) asks .world) ≡ true
   enough-end d enough far =
       let s : resetOut (w .session) (w .table) ≡ outcome 0 (withCheck (w .session) unchecked) (w .table) = reset-makes (w .session) (w .table) f (p .phase) in
       let place : reset w .session .check .place ≡ 0 = rw s in
-      let some : 1 ≤ w .session .pages = formed-means (w .session) (length (w .table)) f .pages .low in
-      to-end d asks (reset w) (w .session .pages) (w .session .created) [] (reset-mid w sound f p) (rw s) (omega (arith, place, some)) enough (omega (arith, place, far))
+      let some : 1 ≤ w .session .fixed .pages = formed-means (w .session) (length (w .table)) f .pages .low in
+      to-end d asks (reset w) (w .session .fixed .pages) (w .session .fixed .created) [] (reset-mid w sound f p) (rw s) (omega (arith, place, some)) enough (omega (arith, place, far))
 
   pub check-ends : ((a : Ask) → List·Memᴰ a asks → Fair a) → pageCount (w .table) ≤ length asks → complete (checked (reset w) asks .world) ≡ true
   check-ends fair far =
-      let ours : pageCount (w .table) ≡ w .session .pages = formed-means (w .session) (length (w .table)) f .ours in
+      let ours : pageCount (w .table) ≡ w .session .fixed .pages = formed-means (w .session) (length (w .table)) f .ours in
       enough-end 1
       (λ a k. record { room = fair a k .some; most = fair a k .most; spent = λ i h l. omega (arith, fair a k .budget, h) })
       (omega (arith, mul-one (length asks), ours, far))
 
-  full-enough : ((a : Ask) → List·Memᴰ a asks → Full (pageCount (w .table)) a) → (a : Ask) → List·Memᴰ a asks → Enough mostEntries (w .session .pages) a
+  full-enough : ((a : Ask) → List·Memᴰ a asks → Full (pageCount (w .table)) a) → (a : Ask) → List·Memᴰ a asks → Enough mostEntries (w .session .fixed .pages) a
   full-enough full a k =
       let m = formed-means (w .session) (length (w .table)) f in
       record { room = omega (arith, full a k .room); most = omega (arith, full a k .room); spent = λ i h l. absurd (omega (arith, full a k .budget, h, l, m .ours)) }
@@ -177,7 +177,7 @@ module _ (w : World) (sound : Sound w) (f : formed (w .session) (length (w .tabl
       let m = formed-means (w .session) (length (w .table)) f in
       let s : resetOut (w .session) (w .table) ≡ outcome 0 (withCheck (w .session) unchecked) (w .table) = reset-makes (w .session) (w .table) f (p .phase) in
       let place : reset w .session .check .place ≡ 0 = rw s in
-      few-lists mostEntries asks mostLists (reset w) (w .session .pages) (w .session .created) [] (reset-mid w sound f p) (rw s) (omega (arith, place, m .pages .low)) (full-enough full) (omega (arith, place, m .pages .high))
+      few-lists mostEntries asks mostLists (reset w) (w .session .fixed .pages) (w .session .fixed .created) [] (reset-mid w sound f p) (rw s) (omega (arith, place, m .pages .low)) (full-enough full) (omega (arith, place, m .pages .high))
 
 -- ---- the new epoch
 
@@ -216,9 +216,9 @@ checked-streams (a ∷ l) w e =
     let rest = checked-streams l v next in
     either (λ (r : Checked). length (r .world .session .streams) ≡ streamPlaces) (eqb (effectIn w (asking a) .returned .code) codes.checkComplete) (λ z. next) (λ z. rest)
 
-pub check-left : (w : World) → Sound w → formed (w .session) (length (w .table)) ≡ true → length (w .session .streams) ≡ streamPlaces → Paused w → (asks : List Ask) → complete (checked (reset w) asks .world) ≡ true → Left (nextEpoch (checked (reset w) asks .world)) (w .session .created) (checked (reset w) asks .lists)
+pub check-left : (w : World) → Sound w → formed (w .session) (length (w .table)) ≡ true → length (w .session .streams) ≡ streamPlaces → Paused w → (asks : List Ask) → complete (checked (reset w) asks .world) ≡ true → Left (nextEpoch (checked (reset w) asks .world)) (w .session .fixed .created) (checked (reset w) asks .lists)
 check-left w sound f streams p asks done =
-    epoch-left (checked (reset w) asks .world) (w .session .pages) (w .session .created) (checked (reset w) asks .lists)
-    (checked-mid asks (reset w) (w .session .pages) (w .session .created) [] (reset-mid w sound f p))
+    epoch-left (checked (reset w) asks .world) (w .session .fixed .pages) (w .session .fixed .created) (checked (reset w) asks .lists)
+    (checked-mid asks (reset w) (w .session .fixed .pages) (w .session .fixed .created) [] (reset-mid w sound f p))
     (checked-streams asks (reset w) (streams-after w (given Reset [] []) streams))
     done

@@ -17,6 +17,7 @@ use Rattle.states.proofs.Laws.{every-if, Each, move-each, goes-each}
 use Rattle.page.specs.Page.{Page, pageOf, strange, onWords, unlessStrange}
 use Rattle.page.specs.Moves.{writable, moveTests, movedBy}
 use Rattle.page.specs.Sweeps.{sweptBy}
+use Rattle.page.specs.declared.Clock.{Clock}
 use Rattle.page.specs.declared.PageWords.{PageWords}
 use Rattle.page.specs.declared.moves.Move.{Move}
 use Rattle.page.specs.declared.moves.Move.the-variants.{Write, Add, Accept, Block, Unblock, Remove}
@@ -73,15 +74,15 @@ write-content p mark w = rw (data-guests (p .state) (lands (isIn (p .state) writ
 moved : (P : State → State → Type 0) (l : List Change) → Each P l → (z : State) → not (hasMove l z) ≡ false → P z (goesBy l z)
 moved P l e z h = move-each P l e z (not-false (hasMove l z) h)
 
-pub step-content : (m : Move) (p : Page) (tlb : ℕ) → Passed (moveTests m p tlb) → content (movedBy m tlb p) ≡ leaves m (content p)
+pub step-content : (m : Move) (p : Page) (clock : Clock) → Passed (moveTests m p clock) → content (movedBy m clock p) ≡ leaves m (content p)
 unfolding isIn
-step-content (Write mark) p tlb d = write-content p mark (not-false (writable p) (d .0))
-step-content Add p tlb d = moved (λ (x to : State). contentOf to 0 ≡ holds true 0) adds (refl, tt) (p .state) (d .0)
-step-content Accept p tlb d = moved (λ (x to : State). contentOf to 0 ≡ holds false 0) accepts (refl, (refl, (refl, tt))) (p .state) (d .0)
-step-content Block p tlb d =
+step-content (Write mark) p clock d = write-content p mark (not-false (writable p) (d .0))
+step-content Add p clock d = moved (λ (x to : State). contentOf to 0 ≡ holds true 0) adds (refl, tt) (p .state) (d .0)
+step-content Accept p clock d = moved (λ (x to : State). contentOf to 0 ≡ holds false 0) accepts (refl, (refl, (refl, tt))) (p .state) (d .0)
+step-content Block p clock d =
     moved Keeps blocks (λ m. refl, (λ m. refl, (λ m. refl, (λ m. refl, (λ m. refl, (λ m. refl, tt)))))) (p .state) (d .0) (p .mark)
-step-content Unblock p tlb d = moved Keeps unblocks (λ m. refl, (λ m. refl, (λ m. refl, (λ m. refl, tt)))) (p .state) (d .0) (p .mark)
-step-content Remove p tlb d = moved (λ (x to : State). contentOf to 0 ≡ absent) removes (refl, (refl, (refl, (refl, tt)))) (p .state) (d .0)
+step-content Unblock p clock d = moved Keeps unblocks (λ m. refl, (λ m. refl, (λ m. refl, (λ m. refl, tt)))) (p .state) (d .0) (p .mark)
+step-content Remove p clock d = moved (λ (x to : State). contentOf to 0 ≡ absent) removes (refl, (refl, (refl, (refl, tt)))) (p .state) (d .0)
 
 -- ---- what every page goes through
 
@@ -102,9 +103,9 @@ look-content : (z : State) → Keeps z (goesBy looks z)
 unfolding isIn
 look-content z = goes-each Keeps looks (λ m. refl, (λ m. refl, tt)) z (λ m. refl)
 
-listed-content : (tlb : ℕ) (p : Page) → content (listedPage tlb p) ≡ content p
+listed-content : (clock : Clock) (p : Page) → content (listedPage clock p) ≡ content p
 unfolding renewed
-listed-content tlb p =
+listed-content clock p =
     either (λ (q : Page). content q ≡ content p) (isIn (goesBy looks (p .state)) renewedStates) (λ e. look-content (p .state) (p .mark)) (λ e. look-content (p .state) (p .mark))
 
 export-content : (z : State) → Keeps z (goesBy exports z)
@@ -145,11 +146,11 @@ swept-content k t i = go (ltb i (pageCount t)) refl
     go true q = ap content (page-swept (sweptBy k) (swept-held k) t i (ltb-true _ _ q)) ∙ sweep-content k (pageAt t i)
     go false q = ap (λ (w : PageWords). content (pageOf w)) (sweep-past (onWords (sweptBy k)) t i (ltb-false _ _ q))
 
-pub range-content : (count : ℕ) (scan : Scan) (t l : List ℕ) → scan .tlb < 2 ^ 16 → 2 * scan .first + 2 * count ≤ length t → (i : ℕ) → content (pageAt (rangeRun count scan t l .part) i) ≡ content (pageAt t i)
+pub range-content : (count : ℕ) (scan : Scan) (t l : List ℕ) → scan .clock .tlb < 2 ^ 16 → 2 * scan .first + 2 * count ≤ length t → (i : ℕ) → content (pageAt (rangeRun count scan t l .part) i) ≡ content (pageAt t i)
 range-content count scan t l r fits i =
     ⊎-elim
     (λ same. ap (λ (w : PageWords). content (pageOf w)) same)
-    (λ seen. ap (λ (w : PageWords). content (pageOf w)) (seen .1) ∙ ap content (look-page (wordsAt t i) i (scan .tlb) r) ∙ listed-content (scan .tlb) (pageAt t i))
+    (λ seen. ap (λ (w : PageWords). content (pageOf w)) (seen .1) ∙ ap content (look-page (wordsAt t i) i (scan .clock) r) ∙ listed-content (scan .clock) (pageAt t i))
     (range-page count scan t l fits i)
 
 -- an entry that names a page past the end changes nothing

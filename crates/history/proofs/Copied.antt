@@ -14,7 +14,7 @@ use Rattle.page.specs.Sweeps.{uncached, started, aborted}
 use Rattle.page.specs.declared.moves.Move.{Move}
 use Rattle.page.specs.declared.moves.Move.the-variants as move
 use Rattle.table.specs.Table.{pageCount, wordsAt, putAt, sweepOf}
-use Rattle.session.specs.Session.{among, guest, newSession, withTlb, withPhase, withEpoch, withCheck, unchecked, begun}
+use Rattle.session.specs.Session.{among, guest, newSession, ticked, withClock, withPhase, withEpoch, withCheck, unchecked, begun}
 use Rattle.session.specs.Outcome.{Outcome, answered}
 use Rattle.session.specs.declared.Phase.{Phase}
 use Rattle.session.specs.declared.Phase.the-variants.{Idle, Live, Blackout, Done}
@@ -124,7 +124,7 @@ module _ (w : World) (l b : List ℕ) (h : Copied (w .session .phase) (w .memory
   call-copied (Unblock page) = page-copied move.Unblock s t page (w .memory) (w .memory) (w .copy) h
   call-copied (Remove page) = page-copied move.Remove s t page (w .memory) (rememberedBy (Remove page) (w .memory)) (w .copy) h
   call-copied Track =
-      answered-copied (trackCode s (length t)) s t (withTlb s (s .tlb + 1)) (sweepOf (onWords uncached) t) (w .memory) (w .memory) (w .copy) (w .copy) h (λ e. h)
+      answered-copied (trackCode s (length t)) s t (withClock s (ticked (s .clock))) (sweepOf (onWords uncached) t) (w .memory) (w .memory) (w .copy) (w .copy) h (λ e. h)
   call-copied Start =
       answered-copied (startCode s t) s t (begun s Live 1) (sweepOf (onWords started) t) (w .memory) (w .memory) (w .copy) (w .copy) h (λ e x. absurd x)
   call-copied Pause =

@@ -36,11 +36,11 @@ ReadyOrListed t ls i = Ready (pageAt t i) ⊎ (Due (pageAt t i) × Listed ls i)
 
 -- between two DCHECKs of a guest of n pages, created with c: what is asked of session, table and the lists so far
 pub record Between (s : Session) (t : List ℕ) (n c : ℕ) (ls : List (List ℕ)) : Type 0 where
-  pub pages : s .pages ≡ n
+  pub pages : s .fixed .pages ≡ n
   pub phase : s .phase ≡ Blackout
   pub rest : busy s ≡ false
   pub epoch : s .epoch < lastEpoch
-  pub created : s .created ≡ c
+  pub created : s .fixed .created ≡ c
   pub unfailed : s .check .failed ≡ false
   pub lists : (l : List ℕ) → List·Memᴰ l ls → Short l
   pub passed : (i : ℕ) → i < s .check .place → ReadyOrListed t ls i
@@ -103,7 +103,7 @@ GetsOn d place n a = ((eqb (a .code) codes.checkComplete ≡ true) × (a .sessio
 
 module _ (s : Session) (t l : List ℕ) (budget : ℕ) (f : formed s (length t) ≡ true) (calm : (k : ℕ) → k < pageCount t → Calm (pageAt t k)) where
   abbrev count : ℕ
-  count = s .pages - s .check .place
+  count = s .fixed .pages - s .check .place
 
   abbrev ran : ScanOut
   ran = dchecked s t l budget
@@ -173,7 +173,7 @@ module _ (s : Session) (t l : List ℕ) (budget : ℕ) (f : formed s (length t) 
       made : ScanAnswer
       made = answerOf (ran .scanned) (checkedBy s (ran .scanned))
 
-      place : s .check .place ≤ s .pages
+      place : s .check .place ≤ s .fixed .pages
       place = formed-means s (length t) f .place
 
       further : (w : Swept (dcheckOf s budget) count t l ran) → eqb (ran .scanned .code) codes.checkComplete ≡ false → d ≤ w .at → w .at < count → Further d (s .check .place) n made

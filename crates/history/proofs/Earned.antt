@@ -22,7 +22,7 @@ use Rattle.history.proofs.Anyhow.{left-anyhow}
 use Rattle.history.proofs.Lists.{left-granted}
 
 -- what the check leaves to be exported
-left : (h : History) → Paused (atEnd h) → (asks : List Ask) → complete (check (atEnd h) asks .world) ≡ true → Left (prepared (atEnd h) asks) (atEnd h .session .created) (check (atEnd h) asks .lists)
+left : (h : History) → Paused (atEnd h) → (asks : List Ask) → complete (check (atEnd h) asks .world) ≡ true → Left (prepared (atEnd h) asks) (atEnd h .session .fixed .created) (check (atEnd h) asks .lists)
 left h p asks c = check-left (atEnd h) (sound-end h) (stays-formed .formed h) (streams-end h) p asks c
 
 lists-earn : (h : History) → Paused (atEnd h) → (asks : List Ask) → complete (check (atEnd h) asks .world) ≡ true → (xs : List Sending) → Plan (atEnd h) (check (atEnd h) asks .lists) xs → granted (sendingAll (prepared (atEnd h) asks) xs) ≡ true
@@ -30,7 +30,7 @@ lists-earn h p asks c xs plan =
     left-granted (atEnd h) (prepared (atEnd h) asks) (check (atEnd h) asks .lists) xs (left h p asks c) (plan .same) (plan .whole)
 
 exports-earn : (h : History) → Paused (atEnd h) → (asks : List Ask) → complete (check (atEnd h) asks .world) ≡ true → (xs : List Exporting) → TookEvery (prepared (atEnd h) asks) (check (atEnd h) asks .lists) xs → busy (exportingAll (prepared (atEnd h) asks) xs .session) ≡ false → granted (exportingAll (prepared (atEnd h) asks) xs) ≡ true
-exports-earn h p asks c xs all rest = left-anyhow (prepared (atEnd h) asks) (atEnd h .session .created) (check (atEnd h) asks .lists) xs (left h p asks c) all rest
+exports-earn h p asks c xs all rest = left-anyhow (prepared (atEnd h) asks) (atEnd h .session .fixed .created) (check (atEnd h) asks .lists) xs (left h p asks c) all rest
 
 -- ---- always
 
@@ -48,7 +48,7 @@ lists-of : (ls : List (List ℕ)) → map (λ (x : Sending). x .list) (map atOnc
 lists-of [] = refl
 lists-of (l ∷ ls) = ap (λ (r : List (List ℕ)). l ∷ r) (lists-of ls)
 
-at-once : (w : World) → 1 < w .session .created → (ls : List (List ℕ)) (x : Sending) → List·Memᴰ x (map atOnce ls) → Whole w x
+at-once : (w : World) → 1 < w .session .fixed .created → (ls : List (List ℕ)) (x : Sending) → List·Memᴰ x (map atOnce ls) → Whole w x
 at-once w c [] x m = absurd (List·Memᴰ·not-nil m)
 at-once w c (l ∷ ls) x m =
     ⊎-elim

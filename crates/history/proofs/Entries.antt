@@ -14,6 +14,7 @@ use Rattle.states.specs.Lists.{pendingStates, blockedStates, cancelledStates, e
 use Rattle.states.proofs.Laws.{move-each}
 use Rattle.page.specs.Page.{blocked, tracked}
 use Rattle.page.specs.Page.{Page}
+use Rattle.page.specs.declared.Clock.{Clock}
 use Rattle.session.specs.Session.{among, moving}
 use Rattle.session.specs.declared.Phase.{Phase}
 use Rattle.session.specs.declared.Phase.the-variants.{Idle, Live, Blackout, Done}
@@ -22,10 +23,10 @@ use Rattle.entry.specs.declared.Ground.{Ground}
 use Rattle.entry.proofs.Laws.{Exportable, status-success, exported-has}
 use Rattle.bundle.specs.Bundle.{Holding, Operation, made, Fits}
 use Rattle.history.specs.History.{operationOf}
-use Rattle.history.proofs.Pages.{Clock, clockOn, There, Same, Seen, Still, Ok}
+use Rattle.history.proofs.Pages.{Moment, momentOn, There, Same, Seen, Still, Ok}
 
 -- an entry that succeeds: what it finds at the destination, and what it makes of it
-pub record Sends (k : Clock) (p q : Page) (o : Operation) (m : Holding) : Type 0 where
+pub record Sends (k : Moment) (p q : Page) (o : Operation) (m : Holding) : Type 0 where
   pub fits : (h : Holding) → Ok k p h → Fits o h
   pub ok : (h : Holding) → Ok k p h → Ok k q m
   pub older : (h : Holding) → Ok k p h → p .migrated < k .epoch
@@ -70,17 +71,13 @@ makes z d c mark =
     z
 
 -- where the tests of Dirty and stamp are passed, no processor has a translation left
-quiet : (phase : Phase) → among moving phase ≡ true → (tlb stamp : ℕ) (d c b : Bool) → (among (Live ∷ []) phase && not (tracked stamp tlb)) ≡ false → d ≡ false → Seen tlb d c stamp → Still phase c b → c ≡ false
-unfolding tracked
-quiet Idle m tlb stamp d c b x y s u = absurd (false≢true m)
-quiet Live m tlb stamp d c b x y s u =
-    let z : (not (eqb stamp 0) && ltb stamp tlb) ≡ true = not-false (not (eqb stamp 0) && ltb stamp tlb) x in
-    let n : stamp ≡ 0 → ⊥ = eqb-false stamp 0 (not-true (eqb stamp 0) (and-left (not (eqb stamp 0)) (ltb stamp tlb) z)) in
-    s (omega (arith, n)) (ltb-true stamp tlb (and-right (not (eqb stamp 0)) (ltb stamp tlb) z)) y
-quiet Blackout m tlb stamp d c b x y s u = u .0
-quiet Done m tlb stamp d c b x y s u = absurd (false≢true m)
+quiet : (phase : Phase) → among moving phase ≡ true → (clock : Clock) (stamp : ℕ) (d c b : Bool) → (among (Live ∷ []) phase && not (tracked stamp clock)) ≡ false → d ≡ false → Seen clock d c stamp → Still phase c b → c ≡ false
+quiet Idle m clock stamp d c b x y s u = absurd (false≢true m)
+quiet Live m clock stamp d c b x y s u = s (not-false (tracked stamp clock) x) y
+quiet Blackout m clock stamp d c b x y s u = u .0
+quiet Done m clock stamp d c b x y s u = absurd (false≢true m)
 
-pub entry-sends : (g : Ground) (e : Entry) (p : Page) → among moving (g .phase) ≡ true → statusOf e p g ≡ 0 → Sends (clockOn g) p (exportedPage (g .epoch) p) (sentAs (p .state)) (sentTo (p .state) (p .mark))
+pub entry-sends : (g : Ground) (e : Entry) (p : Page) → among moving (g .phase) ≡ true → statusOf e p g ≡ 0 → Sends (momentOn g) p (exportedPage (g .epoch) p) (sentAs (p .state)) (sentTo (p .state) (p .mark))
 unfolding statusOf
 entry-sends g e p v x =
     record {
@@ -96,8 +93,8 @@ entry-sends g e p v x =
     m : Makes (p .state) (goesBy exports (p .state)) (p .dirty) (p .cached) (p .mark)
     m = makes (p .state) (p .dirty) (p .cached) (p .mark) (exported-has p (t .able) (t .clean) .moves)
 
-    early : (not (cancelled p) && among (Live ∷ []) (g .phase) && not (tracked (p .stamp) (g .tlb))) ≡ false
+    early : (not (cancelled p) && among (Live ∷ []) (g .phase) && not (tracked (p .stamp) (g .clock))) ≡ false
     early = passed (statusTests e p g) refl x .1 .1 .1 .1 .1 .1 .0
 
-    calm : {h : Holding} → cancelled p ≡ false → Ok (clockOn g) p h → p .cached ≡ false
-    calm n o = quiet (g .phase) v (g .tlb) (p .stamp) (p .dirty) (p .cached) (blocked p) (rw n at early) (rw n at (t .clean)) (o .seen) (o .still)
+    calm : {h : Holding} → cancelled p ≡ false → Ok (momentOn g) p h → p .cached ≡ false
+    calm n o = quiet (g .phase) v (g .clock) (p .stamp) (p .dirty) (p .cached) (blocked p) (rw n at early) (rw n at (t .clean)) (o .seen) (o .still)

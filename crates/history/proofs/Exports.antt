@@ -14,7 +14,7 @@ use Rattle.words.specs.declared.infos.Info.{Info}
 use Rattle.words.proofs.InfoLaws.{info-fits, info-word}
 use Rattle.refusals.proofs.Laws.{either, and-left, not-false}
 use Rattle.table.specs.Table.{pageCount}
-use Rattle.session.specs.Session.{among, moving, workOf, withWork, streamPlaces}
+use Rattle.session.specs.Session.{among, moving, workOf, withWork, withStreams, streamPlaces}
 use Rattle.session.specs.Formed.{lastEntry}
 use Rattle.session.specs.declared.Phase.the-variants.{Idle}
 use Rattle.session.specs.declared.Session.{Session}
@@ -33,7 +33,7 @@ use Rattle.export.proofs.Moves.{step-length, exported}
 use Rattle.calls.specs.Calls.{exportNumbers, exportEffect}
 use Rattle.bundle.specs.Bundle.{Sent}
 use Rattle.history.specs.History.{World, sentBy, sentFrom, cameTo, sentIn}
-use Rattle.history.proofs.Pages.{clockOn}
+use Rattle.history.proofs.Pages.{momentOn}
 use Rattle.history.proofs.Sessions.{not-idle}
 use Rattle.history.proofs.Logs.{Orderly, Fine, adds, one-more}
 use Rattle.history.proofs.Stands.{Stands, since-begun}
@@ -57,7 +57,7 @@ sent-step epoch l b at w v first h hl hb =
 
 record Logging (g : Ground) (log : List Sent) (first last : ℕ) (s : Standing) : Type 0 where
   orderly : Orderly (log ++ sentFrom (g .epoch) (s .list) (s .buffer) first (s .at .next - first))
-  fine : Fine (clockOn g) (log ++ sentFrom (g .epoch) (s .list) (s .buffer) first (s .at .next - first)) (s .table)
+  fine : Fine (momentOn g) (log ++ sentFrom (g .epoch) (s .list) (s .buffer) first (s .at .next - first)) (s .table)
   from : first ≤ s .at .next
   long : last < length (s .list)
   same : length (s .buffer) ≡ length (s .list)
@@ -135,11 +135,6 @@ none-came info code s e =
     rw e (either (λ (n : ℕ). n - infoOf info .first ≡ 0) (eqb code 1) (λ q. omega arith) (λ q. omega arith))
 
 -- ---- the whole call
-
--- of a session it changes the streams alone
-abbrev pub withStreams : Session → List Stream → Session
-withStreams s l =
-    record { phase = s .phase; pages = s .pages; tlb = s .tlb; epoch = s .epoch; created = s .created; check = s .check; streams = l }
 
 run-streams : (P : Session → Type 0) (s : Session) (stream : ℕ) (run : Work) → ((l : List Stream) → P (withStreams s l)) → P (withWork s stream run)
 unfolding withWork

@@ -17,7 +17,7 @@ use Rattle.page.specs.declared.moves.Move.{Move}
 use Rattle.page.specs.declared.moves.Move.the-variants as move
 use Rattle.table.specs.Table.{pageCount, wordsAt, putAt, sweepOf}
 use Rattle.table.proofs.Laws.{put-length, sweep-length}
-use Rattle.session.specs.Session.{streamPlaces, unchecked, newSession, begun, withPhase, withTlb, withEpoch, withCheck, withWork, workOf}
+use Rattle.session.specs.Session.{streamPlaces, unchecked, newSession, begun, withPhase, ticked, withClock, withEpoch, withCheck, withWork, workOf}
 use Rattle.session.specs.Formed.{formed}
 use Rattle.session.specs.Outcome.{Outcome, answered, answeredBy}
 use Rattle.session.specs.declared.Phase.the-variants as phase
@@ -82,7 +82,7 @@ module _ (s : Session) (t : List ℕ) (f : formed s (length t) ≡ true) where
   call-formed l b (Block page) = page-formed move.Block page
   call-formed l b (Unblock page) = page-formed move.Unblock page
   call-formed l b (Remove page) = page-formed move.Remove page
-  call-formed l b Track = swept-formed uncached (trackCode s (length t)) (withTlb s (s .tlb + 1)) (λ e. track-formed means (track-room s (length t) e))
+  call-formed l b Track = swept-formed uncached (trackCode s (length t)) (withClock s (ticked (s .clock))) (λ e. track-formed means (track-room s (length t) e))
   call-formed l b Start = swept-formed started (startCode s t) (begun s phase.Live 1) (λ e. start-formed means)
   call-formed l b Pause = swept-formed uncached (pauseCode s t) (withPhase s phase.Blackout) (pause-made s t)
   call-formed l b Abort = swept-formed aborted (abortCode s (length t)) (begun s phase.Idle 0) (λ e. abort-formed means)
@@ -97,7 +97,7 @@ module _ (s : Session) (t : List ℕ) (f : formed s (length t) ≡ true) where
       dcheck-either s t l budget (λ (o : ScanOutcome). formed (o .answer .session) (length (o .table)) ≡ true)
       (λ e.
       let g = dchecked s t l budget .scanned in
-      rw (range-length (s .pages - s .check .place) (dcheckOf s budget) t l, answer-session g (checkedBy s g)) (means-formed (checkedBy s g) (length t) (check-made s t l budget e)))
+      rw (range-length (s .fixed .pages - s .check .place) (dcheckOf s budget) t l, answer-session g (checkedBy s g)) (means-formed (checkedBy s g) (length t) (check-made s t l budget e)))
       f
   call-formed l b (Export stream resume info budget) =
       let x = infoOf info in
@@ -147,7 +147,7 @@ module _ (s : Session) (t : List ℕ) (n : length (s .streams) ≡ streamPlaces)
   call-streams l b (Block page) = page-streams move.Block page
   call-streams l b (Unblock page) = page-streams move.Unblock page
   call-streams l b (Remove page) = page-streams move.Remove page
-  call-streams l b Track = swept-streams uncached (trackCode s (length t)) (withTlb s (s .tlb + 1)) n
+  call-streams l b Track = swept-streams uncached (trackCode s (length t)) (withClock s (ticked (s .clock))) n
   call-streams l b Start = swept-streams started (startCode s t) (begun s phase.Live 1) refl
   call-streams l b Pause = swept-streams uncached (pauseCode s t) (withPhase s phase.Blackout) n
   call-streams l b Abort = swept-streams aborted (abortCode s (length t)) (begun s phase.Idle 0) refl

@@ -27,7 +27,7 @@ use Rattle.export.proofs.Moves.{step-page, step-failed, step-other, step-length
 use Rattle.bundle.specs.Bundle.{Sent, madeBy, Rising, Once}
 use Rattle.bundle.proofs.Replay.{rising-more, once-more, Lawful, lawful-more}
 use Rattle.history.specs.History.{sentBy}
-use Rattle.history.proofs.Pages.{Clock, clockOn, stay}
+use Rattle.history.proofs.Pages.{Moment, momentOn, stay}
 use Rattle.history.proofs.Entries.{sentAs, entry-sends, Sends}
 use Rattle.history.proofs.Rows.{Steps, Row, Rows, rows-steps, rows-sent}
 
@@ -38,7 +38,7 @@ pub record Orderly (log : List Sent) : Type 0 where
   pub once : Once log
   pub lawful : Lawful log
 
-pub record Fine (k : Clock) (log : List Sent) (t : List ℕ) : Type 0 where
+pub record Fine (k : Moment) (log : List Sent) (t : List ℕ) : Type 0 where
   pub rows : Rows k log t
   pub past : (y : Sent) → List·Memᴰ y log → y .epoch ≤ k .epoch
   pub inside : (y : Sent) → List·Memᴰ y log → y .page < pageCount t
@@ -47,11 +47,11 @@ pub record Fine (k : Clock) (log : List Sent) (t : List ℕ) : Type 0 where
 pub orderly-none : Orderly []
 orderly-none = record { rising = tt; once = tt; lawful = λ y m. absurd (List·Memᴰ·not-nil m) }
 
-pub fine-none : {k : Clock} {t : List ℕ} → Rows k [] t → Fine k [] t
+pub fine-none : {k : Moment} {t : List ℕ} → Rows k [] t → Fine k [] t
 fine-none r = record { rows = r; past = λ y m. absurd (List·Memᴰ·not-nil m); inside = λ y m. absurd (List·Memᴰ·not-nil m) }
 
 -- a call that steps every page and makes no entry
-pub fine-steps : {k k' : Clock} {log : List Sent} {t t' : List ℕ} → k .epoch ≤ k' .epoch → Steps k k' t t' → Fine k log t → Fine k' log t'
+pub fine-steps : {k k' : Moment} {log : List Sent} {t t' : List ℕ} → k .epoch ≤ k' .epoch → Steps k k' t t' → Fine k log t → Fine k' log t'
 fine-steps {log = log} {t = t} {t' = t'} a s f =
     let e : pageCount t' ≡ pageCount t = ap (λ (n : ℕ). n / 2) (s .size) in
     record { rows = rows-steps log s (f .rows); past = λ y m. omega (arith, a, f .past y m); inside = λ y m. rw e (f .inside y m) }
@@ -110,8 +110,8 @@ module _ (g : Ground) (s : Standing) where
       go true q = rw (eqb-true i (gpaOf s) q) (step-failed g s (λ z. eqb-false _ _ e (sym (taken-status (wordOf s) (wordsAt (s .table) (gpaOf s)) g) ∙ z)))
       go false q = step-other g s i (eqb-false _ _ q)
 
-  module _ (moves : among moving (g .phase) ≡ true) (small : g .epoch < 2 ^ 16) (size : g .pages ≡ pageCount (s .table)) (log : List Sent) (o : Orderly log) (f : Fine (clockOn g) log (s .table)) where
-    sent-more : statusOf (entryOf (wordOf s)) page g ≡ 0 → Orderly (log ++ (sends ∷ [])) × Fine (clockOn g) (log ++ (sends ∷ [])) (stepped g s .table)
+  module _ (moves : among moving (g .phase) ≡ true) (small : g .epoch < 2 ^ 16) (size : g .pages ≡ pageCount (s .table)) (log : List Sent) (o : Orderly log) (f : Fine (momentOn g) log (s .table)) where
+    sent-more : statusOf (entryOf (wordOf s)) page g ≡ 0 → Orderly (log ++ (sends ∷ [])) × Fine (momentOn g) (log ++ (sends ∷ [])) (stepped g s .table)
     sent-more e = (
       record {
         rising = rising-more log sends (o .rising) (f .past);
@@ -119,7 +119,7 @@ module _ (g : Ground) (s : Standing) where
         lawful = lawful-more log sends _ (old .has) (old .past) older (n .fits (old .has) (old .ok)) (f .past) (o .lawful);
       },
       record {
-        rows = rows-sent (clockOn g) log sends (s .table) (stepped g s .table) _ (step-length g s) l refl (step-page g s small l (taken-status (wordOf s) (wordsAt (s .table) (gpaOf s)) g ∙ e)) (step-other g s) n (f .rows);
+        rows = rows-sent (momentOn g) log sends (s .table) (stepped g s .table) _ (step-length g s) l refl (step-page g s small l (taken-status (wordOf s) (wordsAt (s .table) (gpaOf s)) g ∙ e)) (step-other g s) n (f .rows);
         past = λ y m. ⊎-elim (λ u. f .past y u) (λ u. omega (arith, ap (λ (v : Sent). v .epoch) (List·Memᴰ·eq-of-singleton u))) (List·Memᴰ·append-cases log m);
         inside = λ y m. rw (step-length g s) (⊎-elim (λ u. f .inside y u) (λ u. omega (arith, l, ap (λ (v : Sent). v .page) (List·Memᴰ·eq-of-singleton u))) (List·Memᴰ·append-cases log m));
       },
@@ -128,18 +128,18 @@ module _ (g : Ground) (s : Standing) where
         l : gpaOf s < pageCount (s .table)
         l = omega (arith, size, status-inside (entryOf (wordOf s)) page g e)
 
-        n : Sends (clockOn g) page (exportedPage (g .epoch) page) (sends .operation) (madeBy sends)
+        n : Sends (momentOn g) page (exportedPage (g .epoch) page) (sends .operation) (madeBy sends)
         n = entry-sends g (entryOf (wordOf s)) page moves e
 
-        old : Row (clockOn g) log (gpaOf s) page
+        old : Row (momentOn g) log (gpaOf s) page
         old = f .rows (gpaOf s) l
 
         older : page .migrated < g .epoch
         older = n .older (old .has) (old .ok)
 
-    pub one-more : Orderly (log ++ adds) × Fine (clockOn g) (log ++ adds) (stepped g s .table)
+    pub one-more : Orderly (log ++ adds) × Fine (momentOn g) (log ++ adds) (stepped g s .table)
     one-more = go (eqb (statusOf (entryOf (wordOf s)) page g) 0) refl
       where
-        go : (b : Bool) → eqb (statusOf (entryOf (wordOf s)) page g) 0 ≡ b → Orderly (log ++ adds) × Fine (clockOn g) (log ++ adds) (stepped g s .table)
+        go : (b : Bool) → eqb (statusOf (entryOf (wordOf s)) page g) 0 ≡ b → Orderly (log ++ adds) × Fine (momentOn g) (log ++ adds) (stepped g s .table)
         go true q = rw (sent-adds (eqb-true _ _ q)) (sent-more (eqb-true _ _ q))
-        go false q = rw (left-adds q, append-nil) (o, fine-steps (omega arith) (record { size = step-length g s; at = λ i h. rw (left-words q i) (stay (clockOn g) (pageAt (s .table) i)) }) f)
+        go false q = rw (left-adds q, append-nil) (o, fine-steps (omega arith) (record { size = step-length g s; at = λ i h. rw (left-words q i) (stay (momentOn g) (pageAt (s .table) i)) }) f)

@@ -18,7 +18,7 @@ use Rattle.page.specs.declared.moves.Move.the-variants as move
 use Rattle.page.specs.declared.sweeps.Sweep.{Sweep}
 use Rattle.page.specs.declared.sweeps.Sweep.the-variants as sweep
 use Rattle.table.specs.Table.{pageCount, wordsAt, pageAt, putAt, sweepOf}
-use Rattle.session.specs.Session.{moving, newSession, withTlb, withPhase, workOf, begun}
+use Rattle.session.specs.Session.{moving, newSession, ticked, withClock, withPhase, workOf, begun}
 use Rattle.session.specs.Outcome.{Outcome, answered}
 use Rattle.session.specs.declared.Phase.the-variants.{Idle, Live, Blackout}
 use Rattle.session.specs.declared.Session.{Session}
@@ -69,7 +69,7 @@ module _ (m : Move) (s : Session) (t : List ℕ) (at : ℕ) (n n' : ℕ → Hold
     where
       here : content (pageAt (onPage m s t at .table) at) ≡ leaves m (n at)
       here =
-          ap content (page-done m s t at (eqb-true _ _ e)) ∙ step-content m (pageAt t at) (s .tlb) (call-done m s t at e .moves) ∙ ap (leaves m) (h at)
+          ap content (page-done m s t at (eqb-true _ _ e)) ∙ step-content m (pageAt t at) (s .clock) (call-done m s t at e .moves) ∙ ap (leaves m) (h at)
 
       go : (b : Bool) → eqb at i ≡ b → n' i ≡ cond b (leaves m (n i)) (n i) → content (pageAt (onPage m s t at .table) i) ≡ n' i
       go true q x = ap (λ (k : ℕ). content (pageAt (onPage m s t at .table) k)) (sym (eqb-true at i q)) ∙ here ∙ ap (λ (k : ℕ). leaves m (n k)) (eqb-true at i q) ∙ sym x
@@ -112,7 +112,7 @@ dcheck-holds s t l budget m h =
     dcheck-either s t l budget (λ (o : ScanOutcome). Holds (o .table) m)
     (λ z i.
     let f = gate-open s (length t) (Blackout ∷ []) (dcheckTests s (length l)) refl z .formed in
-    range-content (s .pages - s .check .place) (dcheckOf s budget) t l (tlb-fits s (length t) f) (dcheck-fits s (length t) (length l) z .1 .0) i ∙ h i)
+    range-content (s .fixed .pages - s .check .place) (dcheckOf s budget) t l (tlb-fits s (length t) f) (dcheck-fits s (length t) (length l) z .1 .0) i ∙ h i)
     h
 
 export-holds : (s : Session) (t l b : List ℕ) (stream : ℕ) (resume : Bool) (info budget : ℕ) (m : ℕ → Holding) → Holds t m → Holds (exportOut s t l b stream resume info budget .table) m
@@ -148,7 +148,7 @@ module _ (w : World) (l b : List ℕ) (h : Holds (w .table) (w .memory)) where
   call-holds (Unblock page) = page-holds move.Unblock s t page (w .memory) (w .memory) h (unmoved (w .memory) page)
   call-holds (Remove page) = page-holds move.Remove s t page (w .memory) (rememberedBy (Remove page) (w .memory)) h (λ i. refl)
   call-holds Track =
-      unnoted (left Track) (w .memory) (sweep-holds sweep.Uncache (trackCode s (length t)) s (withTlb s (s .tlb + 1)) t (w .memory) h)
+      unnoted (left Track) (w .memory) (sweep-holds sweep.Uncache (trackCode s (length t)) s (withClock s (ticked (s .clock))) t (w .memory) h)
   call-holds Start =
       unnoted (left Start) (w .memory) (sweep-holds sweep.Start (startCode s t) s (begun s Live 1) t (w .memory) h)
   call-holds Pause =

@@ -11,6 +11,7 @@ use Rattle.states.specs.Lists.{writableStates, landingStates, startableStates, 
 use Rattle.states.proofs.Laws.{every-if, eachPasses, each-by, move-each, goes-each}
 use Rattle.page.specs.Page.{Page, blocked}
 use Rattle.page.specs.Moves.{writable, moveTests, stored, emptied, restamped, movedBy}
+use Rattle.page.specs.declared.Clock.{Clock}
 use Rattle.page.specs.declared.moves.Move.{Move}
 use Rattle.page.specs.declared.moves.Move.the-variants.{Write, Add, Accept, Block, Unblock, Remove}
 use Rattle.session.specs.Session.{among, guest}
@@ -18,7 +19,7 @@ use Rattle.session.specs.declared.Phase.{Phase}
 use Rattle.session.specs.declared.Phase.the-variants.{Idle, Live, Blackout, Done}
 use Rattle.scan.specs.Look.{renewed, listedPage}
 use Rattle.bundle.specs.Bundle.{Holding}
-use Rattle.history.proofs.Pages.{Clock, There, isExported, isPendingExported, Same, Seen, Still, Ok, Step, stay, there-as, same-free, if-false, if-map, seen-zero, seen-now}
+use Rattle.history.proofs.Pages.{Moment, There, isExported, isPendingExported, Same, Seen, Still, Ok, Step, stay, there-as, same-free, if-false, if-map, seen-zero, seen-now}
 
 -- ---- changes of state
 
@@ -85,13 +86,13 @@ landed : (a b c : Bool) → a ≡ false → (a || (b && c)) ≡ true → c ≡ t
 landed true b c x y = absurd (true≢false x)
 landed false b c x y = and-right b c y
 
-write-seen : (tlb : ℕ) (p : Page) → writable p ≡ true → Seen tlb (p .dirty) (p .cached) (p .stamp) → Seen tlb (p .dirty || (isIn (p .state) writableStates && not (p .cached))) true (p .stamp)
+write-seen : (clock : Clock) (p : Page) → writable p ≡ true → Seen clock (p .dirty) (p .cached) (p .stamp) → Seen clock (p .dirty || (isIn (p .state) writableStates && not (p .cached))) true (p .stamp)
 unfolding writable
-write-seen tlb p w s a b x = go (isIn (p .state) writableStates) refl x
+write-seen clock p w s a x = go (isIn (p .state) writableStates) refl x
   where
     go : (y : Bool) → isIn (p .state) writableStates ≡ y → (p .dirty || (y && not (p .cached))) ≡ false → true ≡ false
-    go true e q = absurd (wrote (p .dirty) (p .cached) true refl (s a b) q)
-    go false e q = sym (landed (isIn (p .state) writableStates) (isIn (p .state) landingStates) (p .cached) e w) ∙ s a b (or-left-false (p .dirty) false q)
+    go true e q = absurd (wrote (p .dirty) (p .cached) true refl (s a) q)
+    go false e q = sym (landed (isIn (p .state) writableStates) (isIn (p .state) landingStates) (p .cached) e w) ∙ s a (or-left-false (p .dirty) false q)
 
 pub still-guest : (phase : Phase) → among guest phase ≡ true → (c b : Bool) → Still phase c b
 still-guest Idle g c b = tt
@@ -101,9 +102,9 @@ still-guest Done g c b = absurd (false≢true g)
 
 -- ---- the calls on one page
 
-module _ (k : Clock) (g : among guest (k .phase) ≡ true) (p : Page) where
+module _ (k : Moment) (g : among guest (k .phase) ≡ true) (p : Page) where
   -- a move that keeps the migration epoch and leaves a stamp that says nothing of Cached
-  settles : (q : Page) → Asks (p .state) (q .state) → q .migrated ≡ p .migrated → Seen (k .tlb) (q .dirty) (q .cached) (q .stamp) → Step k k p q
+  settles : (q : Page) → Asks (p .state) (q .state) → q .migrated ≡ p .migrated → Seen (k .clock) (q .dirty) (q .cached) (q .stamp) → Step k k p q
   settles q a e s =
       record {
         ok = λ h o. record { known = a .known; young = rw e (o .young); there = a .there h (o .there); same = a .same (q .dirty) (q .cached) (q .mark) h; seen = s; still = still-guest (k .phase) g (q .cached) (blocked q) };
@@ -121,20 +122,20 @@ module _ (k : Clock) (g : among guest (k .phase) ≡ true) (p : Page) where
             if-map (isExported (p .state)) (λ e f y. absurd (wrote (p .dirty) (p .cached) (isIn (p .state) writableStates) (exported-writable (p .state) e) (λ x. f x .0) y)) (o .same .0),
             if-false _ (isPendingExported (p .state)) (write-pending p w),
           );
-          seen = write-seen (k .tlb) p w (o .seen);
+          seen = write-seen (k .clock) p w (o .seen);
           still = still-guest (k .phase) g true (blocked p);
         };
         kept = refl;
       }
 
-  pub move-step : (m : Move) → Passed (moveTests m p (k .tlb)) → Step k k p (movedBy m (k .tlb) p)
+  pub move-step : (m : Move) → Passed (moveTests m p (k .clock)) → Step k k p (movedBy m (k .clock) p)
   unfolding isIn isStrange
   move-step (Write mark) d = write-step mark (not-false (writable p) (d .0))
-  move-step Add d = settles (emptied p (goesBy adds (p .state))) (each-asks adds refl (p .state) (d .0)) refl (seen-zero (k .tlb) false false)
-  move-step Accept d = settles (emptied p (goesBy accepts (p .state))) (each-asks accepts refl (p .state) (d .0)) refl (seen-zero (k .tlb) false false)
-  move-step Block d = settles (restamped p (goesBy blocks (p .state)) (k .tlb)) (each-asks blocks refl (p .state) (d .0)) refl (seen-now (k .tlb) (p .dirty) (p .cached))
-  move-step Unblock d = settles (restamped p (goesBy unblocks (p .state)) 0) (each-asks unblocks refl (p .state) (d .0)) refl (seen-zero (k .tlb) (p .dirty) (p .cached))
-  move-step Remove d = settles (emptied p (goesBy removes (p .state))) (each-asks removes refl (p .state) (d .0)) refl (seen-zero (k .tlb) false false)
+  move-step Add d = settles (emptied p (goesBy adds (p .state))) (each-asks adds refl (p .state) (d .0)) refl (seen-zero (k .clock) false false)
+  move-step Accept d = settles (emptied p (goesBy accepts (p .state))) (each-asks accepts refl (p .state) (d .0)) refl (seen-zero (k .clock) false false)
+  move-step Block d = settles (restamped p (goesBy blocks (p .state)) (k .clock .tlb)) (each-asks blocks refl (p .state) (d .0)) refl (seen-now (k .clock) (p .dirty) (p .cached))
+  move-step Unblock d = settles (restamped p (goesBy unblocks (p .state)) 0) (each-asks unblocks refl (p .state) (d .0)) refl (seen-zero (k .clock) (p .dirty) (p .cached))
+  move-step Remove d = settles (emptied p (goesBy removes (p .state))) (each-asks removes refl (p .state) (d .0)) refl (seen-zero (k .clock) false false)
 
 -- ---- a scan
 
@@ -170,7 +171,7 @@ renewed-free : (z : State) → isIn z renewedStates ≡ true → (not (isExporte
 unfolding isIn stateOf
 renewed-free = every-if (λ (z : State). isIn z renewedStates) (λ (z : State). not (isExported z) && not (isPendingExported z)) tt
 
-pub listed-step : (k : Clock) (p : Page) → Step k k p (listedPage (k .tlb) p)
+pub listed-step : (k : Moment) (p : Page) → Step k k p (listedPage (k .clock) p)
 unfolding renewed
 listed-step k p =
     let to = goesBy looks (p .state) in
@@ -184,7 +185,7 @@ listed-step k p =
         young = o .young;
         there = l .there h (o .there);
         same = same-free to (not-true _ (and-left (not (isExported to)) (not (isPendingExported to)) n)) (not-true _ (and-right (not (isExported to)) (not (isPendingExported to)) n)) false (p .cached) (p .mark) h;
-        seen = seen-now (k .tlb) false (p .cached);
+        seen = seen-now (k .clock) false (p .cached);
         still = rw (l .blocked) (o .still);
       };
       kept = refl;

@@ -1,13 +1,14 @@
 -- One page: what always holds between calls of it and of what the destination has of it. Every move of a page keeps that (`Moves`, `Entries`, `Sweeps`), since
 -- what a move asks of Dirty, Cached and stamp is what the destination's copy needs.
-use native.Mathlib.Omega.{arith}
-use mathlib.Core.Path.{_≡_, refl, sym, subst}
+use mathlib.Core.Path.{_≡_, refl, sym, subst, _∙_}
 use mathlib.Core.Bool.{Bool, true, false, true≢false, false≢true}
 use mathlib.Core.List.{[], _∷_}
 use Prim.Native.Nat.{ℕ, _≤_, _<_}
 use Rattle.states.specs.States.{State, Exported, PendingExported, isIn}
 use Rattle.states.specs.Lists.{startableStates}
-use Rattle.page.specs.Page.{Page, strange, blocked}
+use Rattle.page.specs.Page.{Page, strange, blocked, tracked}
+use Rattle.page.specs.declared.Clock.{Clock}
+use Rattle.page.proofs.Laws.{now-untracked}
 use Rattle.session.specs.declared.Phase.{Phase}
 use Rattle.session.specs.declared.Phase.the-variants.{Idle, Live, Blackout, Done}
 use Rattle.session.specs.declared.Session.{Session}
@@ -15,16 +16,16 @@ use Rattle.entry.specs.declared.Ground.{Ground}
 use Rattle.bundle.specs.Bundle.{Holding, absent, holds, Present}
 
 -- what of the session a page depends on
-pub record Clock : Type 0 where
+pub record Moment : Type 0 where
   pub phase : Phase
-  pub tlb : ℕ
+  pub clock : Clock
   pub epoch : ℕ
 
-abbrev pub clockOf : Session → Clock
-clockOf s = record { phase = s .phase; tlb = s .tlb; epoch = s .epoch }
+abbrev pub momentOf : Session → Moment
+momentOf s = record { phase = s .phase; clock = s .clock; epoch = s .epoch }
 
-abbrev pub clockOn : Ground → Clock
-clockOn g = record { phase = g .phase; tlb = g .tlb; epoch = g .epoch }
+abbrev pub momentOn : Ground → Moment
+momentOn g = record { phase = g .phase; clock = g .clock; epoch = g .epoch }
 
 -- ---- what holds of a page
 
@@ -71,9 +72,9 @@ there-as z to e h t = subst (λ (b : Bool). nowhere b h) (sym e) t
 pub same-free : (z : State) → isExported z ≡ false → isPendingExported z ≡ false → (d c : Bool) (m : ℕ) (h : Holding) → Same z d c m h
 same-free z x y d c m h = (if-false _ (isExported z) x, if-false _ (isPendingExported z) y)
 
--- no processor has a translation left that would write unseen: TLB epoch, Dirty, Cached, stamp
-abbrev pub Seen : ℕ → Bool → Bool → ℕ → Type 0
-Seen tlb d c stamp = 0 < stamp → stamp < tlb → d ≡ false → c ≡ false
+-- once it is tracked, no processor has a translation left that would write unseen: Dirty, Cached, stamp
+abbrev pub Seen : Clock → Bool → Bool → ℕ → Type 0
+Seen clock d c stamp = tracked stamp clock ≡ true → d ≡ false → c ≡ false
 
 -- in Blackout nothing is Cached and nothing blocked
 abbrev pub Still : Phase → Bool → Bool → Type 0
@@ -82,26 +83,28 @@ Still Live c b = Unit
 Still Blackout c b = (c ≡ false) × (b ≡ false)
 Still Done c b = Unit
 
-pub record Ok (k : Clock) (p : Page) (h : Holding) : Type 0 where
+pub record Ok (k : Moment) (p : Page) (h : Holding) : Type 0 where
   pub known : strange p ≡ false
   pub young : p .migrated ≤ k .epoch
   pub there : There (p .state) h
   pub same : Same (p .state) (p .dirty) (p .cached) (p .mark) h
-  pub seen : Seen (k .tlb) (p .dirty) (p .cached) (p .stamp)
+  pub seen : Seen (k .clock) (p .dirty) (p .cached) (p .stamp)
   pub still : Still (k .phase) (p .cached) (blocked p)
 
 -- a page may become another, with the session, while the destination stays
-pub record Step (k k' : Clock) (p q : Page) : Type 0 where
+pub record Step (k k' : Moment) (p q : Page) : Type 0 where
   pub ok : (h : Holding) → Ok k p h → Ok k' q h
   pub kept : q .migrated ≡ p .migrated
 
-pub stay : (k : Clock) (p : Page) → Step k k p p
+pub stay : (k : Moment) (p : Page) → Step k k p p
 stay k p = record { ok = λ h o. o; kept = refl }
 
 -- ---- what the moves use
 
-pub seen-zero : (tlb : ℕ) (d c : Bool) → Seen tlb d c 0
-seen-zero tlb d c a b x = absurd (omega arith)
+-- neither stamp 0 nor a stamp of now is tracked
+pub seen-zero : (clock : Clock) (d c : Bool) → Seen clock d c 0
+unfolding tracked
+seen-zero clock d c a = absurd (false≢true a)
 
-pub seen-now : (tlb : ℕ) (d c : Bool) → Seen tlb d c tlb
-seen-now tlb d c a b x = absurd (omega arith)
+pub seen-now : (clock : Clock) (d c : Bool) → Seen clock d c (clock .tlb)
+seen-now clock d c a = absurd (false≢true (sym (now-untracked clock) ∙ a))

@@ -17,7 +17,7 @@ use Rattle.words.specs.declared.infos.Info.{Info}
 use Rattle.words.proofs.InfoLaws.{info-fits}
 use Rattle.refusals.proofs.Laws.{either}
 use Rattle.table.specs.Table.{pageCount, pageAt}
-use Rattle.session.specs.Session.{among, moving, resting, streamPlaces, workOf, withWork}
+use Rattle.session.specs.Session.{among, moving, resting, streamPlaces, workOf, withStreams, withWork}
 use Rattle.session.specs.Formed.{formed, mostEntries, workResting}
 use Rattle.session.specs.declared.Phase.the-variants.{Blackout}
 use Rattle.session.specs.declared.Session.{Session}
@@ -35,7 +35,7 @@ use Rattle.calls.specs.declared.Call.the-variants.{Export}
 use Rattle.history.specs.History.{Given, given, World, effectIn, leftBy, after}
 use Rattle.history.specs.Earning.{total, exported}
 use Rattle.history.proofs.Formed.{formed-after, streams-after}
-use Rattle.history.proofs.Exports.{begins, info-back, withStreams}
+use Rattle.history.proofs.Exports.{begins, info-back}
 use Rattle.history.proofs.Waiting.{Listed, Short, Left}
 use Rattle.history.proofs.Ahead.{Ahead, Waits, waits-map, none-ahead, Along, call-along, run-far}
 
@@ -51,7 +51,7 @@ module _ (n stream entries : ℕ) (rest : List (List ℕ)) where
     pub phase : w .session .phase ≡ Blackout
     pub streams : length (w .session .streams) ≡ streamPlaces
     pub complete : w .session .check .complete ≡ true
-    pub created : w .session .created ≡ n
+    pub created : w .session .fixed .created ≡ n
     -- the other streams are at rest
     pub others : (i : ℕ) → i < streamPlaces → (i ≡ stream → ⊥) → workResting (getD (w .session .streams) i resting .work) ≡ true
     pub work : Finds resume next (infoOf info .last) (workOf (w .session) stream)
@@ -91,7 +91,7 @@ module _ (n stream entries : ℕ) (rest : List (List ℕ)) where
             formed = k .formed;
             comes = ap (among moving) (k .phase);
             passed = (
-              ap not (lt-ltb (stream + 1) (s .created) (omega (arith, k .created))),
+              ap not (lt-ltb (stream + 1) (s .fixed .created) (omega (arith, k .created))),
               (
                 rw (le-leb 1 (length l) (omega (arith, k .last, k .list)), le-leb (length l) mostEntries (omega (arith, k .list))),
                 (

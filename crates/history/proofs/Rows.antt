@@ -28,14 +28,14 @@ use Rattle.scan.proofs.RangeLaws.{range-page, range-length}
 use Rattle.scan.proofs.Outcomes.{look-page}
 use Rattle.bundle.specs.Bundle.{Holding, absent, Sent, madeBy}
 use Rattle.bundle.proofs.Replay.{Past, past-none, past-other, past-more}
-use Rattle.history.proofs.Pages.{Clock, clockOf, Ok, Step, stay}
+use Rattle.history.proofs.Pages.{Moment, momentOf, Ok, Step, stay}
 use Rattle.history.proofs.Moves.{move-step, listed-step}
 use Rattle.history.proofs.Contents.{call-done}
 use Rattle.history.proofs.Entries.{Sends}
 
 -- ---- steps of all pages
 
-pub record Steps (k k' : Clock) (t t' : List ℕ) : Type 0 where
+pub record Steps (k k' : Moment) (t t' : List ℕ) : Type 0 where
   pub size : length t' ≡ length t
   pub at : (i : ℕ) → i < pageCount t → Step k k' (pageAt t i) (pageAt t' i)
 
@@ -48,23 +48,23 @@ page-kept m s t at =
 page-length : (m : Move) (s : Session) (t : List ℕ) (at : ℕ) → length (onPage m s t at .table) ≡ length t
 page-length m s t at = page-either m s t at (λ (o : Outcome). length (o .table) ≡ length t) (λ d. put-length t at _) (λ q. refl)
 
-pub page-steps : (m : Move) (s : Session) (t : List ℕ) (at : ℕ) → Steps (clockOf s) (clockOf s) t (onPage m s t at .table)
+pub page-steps : (m : Move) (s : Session) (t : List ℕ) (at : ℕ) → Steps (momentOf s) (momentOf s) t (onPage m s t at .table)
 page-steps m s t at = record { size = page-length m s t at; at = λ i h. elim (ℕ-discrete i at) [ yes e ↦ same i e | no ne ↦ other i ne ] }
   where
     o : Outcome
     o = onPage m s t at
 
-    here : (b : Bool) → eqb (o .answer .code) 0 ≡ b → Step (clockOf s) (clockOf s) (pageAt t at) (pageAt (o .table) at)
+    here : (b : Bool) → eqb (o .answer .code) 0 ≡ b → Step (momentOf s) (momentOf s) (pageAt t at) (pageAt (o .table) at)
     here true q =
         let d = call-done m s t at q in
-        rw (page-done m s t at (eqb-true _ _ q)) (move-step (clockOf s) (d .comes) (pageAt t at) m (d .moves))
-    here false q = rw (page-kept m s t at q) (stay (clockOf s) (pageAt t at))
+        rw (page-done m s t at (eqb-true _ _ q)) (move-step (momentOf s) (d .comes) (pageAt t at) m (d .moves))
+    here false q = rw (page-kept m s t at q) (stay (momentOf s) (pageAt t at))
 
-    same : (i : ℕ) → i ≡ at → Step (clockOf s) (clockOf s) (pageAt t i) (pageAt (o .table) i)
+    same : (i : ℕ) → i ≡ at → Step (momentOf s) (momentOf s) (pageAt t i) (pageAt (o .table) i)
     same i e = rw e (here (eqb (o .answer .code) 0) refl)
 
-    other : (i : ℕ) → (i ≡ at → ⊥) → Step (clockOf s) (clockOf s) (pageAt t i) (pageAt (o .table) i)
-    other i e = rw (page-other m s t at i e) (stay (clockOf s) (pageAt t i))
+    other : (i : ℕ) → (i ≡ at → ⊥) → Step (momentOf s) (momentOf s) (pageAt t i) (pageAt (o .table) i)
+    other i e = rw (page-other m s t at i e) (stay (momentOf s) (pageAt t i))
 
 -- ---- a call on every page, and a scan
 
@@ -78,43 +78,43 @@ swept-length k t = sweep-length (onWords (sweptBy k)) t
 swept-page : (k : Sweep) (t : List ℕ) (i : ℕ) → i < pageCount t → pageAt (swept k t) i ≡ unlessStrange (sweptBy k) (pageAt t i)
 swept-page k t i h = page-swept (sweptBy k) (swept-held k) t i h
 
-pub sweep-steps : (x : Sweep) (k k' : Clock) (t : List ℕ) → ((i : ℕ) → i < pageCount t → Step k k' (pageAt t i) (unlessStrange (sweptBy x) (pageAt t i))) → Steps k k' t (swept x t)
+pub sweep-steps : (x : Sweep) (k k' : Moment) (t : List ℕ) → ((i : ℕ) → i < pageCount t → Step k k' (pageAt t i) (unlessStrange (sweptBy x) (pageAt t i))) → Steps k k' t (swept x t)
 sweep-steps x k k' t s = record { size = swept-length x t; at = λ i h. rw (swept-page x t i h) (s i h) }
 
-pub scan-steps : (k : Clock) (count : ℕ) (scan : Scan) (t l : List ℕ) → scan .tlb ≡ k .tlb → k .tlb < 2 ^ 16 → 2 * scan .first + 2 * count ≤ length t → Steps k k t (rangeRun count scan t l .part)
+pub scan-steps : (k : Moment) (count : ℕ) (scan : Scan) (t l : List ℕ) → scan .clock ≡ k .clock → k .clock .tlb < 2 ^ 16 → 2 * scan .first + 2 * count ≤ length t → Steps k k t (rangeRun count scan t l .part)
 unfolding lookOf
 scan-steps k count scan t l e small fits =
     record { size = range-length count scan t l; at = λ i h. look i (range-page count scan t l fits i) }
   where
-    look : (i : ℕ) → LookedAt i (scan .tlb) (wordsAt t i) (wordsAt (rangeRun count scan t l .part) i) → Step k k (pageAt t i) (pageAt (rangeRun count scan t l .part) i)
+    look : (i : ℕ) → LookedAt i (scan .clock) (wordsAt t i) (wordsAt (rangeRun count scan t l .part) i) → Step k k (pageAt t i) (pageAt (rangeRun count scan t l .part) i)
     look i (inl q) = rw q (stay k (pageAt t i))
     look i (inr q) =
-        rw (q .1, e, look-page (wordsAt t i) i (k .tlb) small) (listed-step k (pageAt t i))
+        rw (q .1, e, look-page (wordsAt t i) i (k .clock) small) (listed-step k (pageAt t i))
 
 -- ---- the invariant of a table
 
-pub record Row (k : Clock) (log : List Sent) (i : ℕ) (p : Page) : Type 0 where
+pub record Row (k : Moment) (log : List Sent) (i : ℕ) (p : Page) : Type 0 where
   pub has : Holding
   pub ok : Ok k p has
   pub past : Past i log (p .migrated) has
 
-abbrev pub Rows : Clock → List Sent → List ℕ → Type 0
+abbrev pub Rows : Moment → List Sent → List ℕ → Type 0
 Rows k log t = (i : ℕ) → i < pageCount t → Row k log i (pageAt t i)
 
-pub rows-steps : {k k' : Clock} (log : List Sent) {t t' : List ℕ} → Steps k k' t t' → Rows k log t → Rows k' log t'
+pub rows-steps : {k k' : Moment} (log : List Sent) {t t' : List ℕ} → Steps k k' t t' → Rows k log t → Rows k' log t'
 rows-steps log {t} {t'} s r i h =
     let h' : i < pageCount t = rw (s .size) at h in
     record { has = r i h' .has; ok = s .at i h' .ok (r i h' .has) (r i h' .ok); past = rw (s .at i h' .kept) (r i h' .past) }
 
 -- every page anew, with nothing at the destination
-pub rows-anew : (x : Sweep) (k k' : Clock) (log : List Sent) (t : List ℕ) → ((i : ℕ) → i < pageCount t → (h : Holding) → Ok k (pageAt t i) h → Ok k' (unlessStrange (sweptBy x) (pageAt t i)) absent × (unlessStrange (sweptBy x) (pageAt t i) .migrated ≡ 0)) → Rows k log t → Rows k' [] (swept x t)
+pub rows-anew : (x : Sweep) (k k' : Moment) (log : List Sent) (t : List ℕ) → ((i : ℕ) → i < pageCount t → (h : Holding) → Ok k (pageAt t i) h → Ok k' (unlessStrange (sweptBy x) (pageAt t i)) absent × (unlessStrange (sweptBy x) (pageAt t i) .migrated ≡ 0)) → Rows k log t → Rows k' [] (swept x t)
 rows-anew x k k' log t o r i h =
     let h' : i < pageCount t = rw (swept-length x t) at h in
     let y = o i h' (r i h' .has) (r i h' .ok) in
     rw (swept-page x t i h') (record { has = absent; ok = y .0; past = rw (y .1) (past-none i) })
 
 -- one entry more
-pub rows-sent : (k : Clock) (log : List Sent) (z : Sent) (t t' : List ℕ) (q : Page) → length t' ≡ length t → z .page < pageCount t → z .epoch ≡ k .epoch → pageAt t' (z .page) ≡ q → ((i : ℕ) → (i ≡ z .page → ⊥) → wordsAt t' i ≡ wordsAt t i) → Sends k (pageAt t (z .page)) q (z .operation) (madeBy z) → Rows k log t → Rows k (log ++ (z ∷ [])) t'
+pub rows-sent : (k : Moment) (log : List Sent) (z : Sent) (t t' : List ℕ) (q : Page) → length t' ≡ length t → z .page < pageCount t → z .epoch ≡ k .epoch → pageAt t' (z .page) ≡ q → ((i : ℕ) → (i ≡ z .page → ⊥) → wordsAt t' i ≡ wordsAt t i) → Sends k (pageAt t (z .page)) q (z .operation) (madeBy z) → Rows k log t → Rows k (log ++ (z ∷ [])) t'
 rows-sent k log z t t' q size l b here beside n r i h = elim (ℕ-discrete i (z .page)) [ yes e ↦ same e | no ne ↦ other ne ]
   where
     h' : i < pageCount t

@@ -18,7 +18,7 @@ use Rattle.bundle.proofs.Replay.{none-past, replay-past, perm-reordered, at-tur
 use Rattle.history.specs.History.{World, History, atEnd}
 use Rattle.history.specs.Earning.{granted}
 use Rattle.history.specs.Promises.{content, Safe, EntriesFit}
-use Rattle.history.proofs.Pages.{clockOf}
+use Rattle.history.proofs.Pages.{momentOf}
 use Rattle.history.proofs.Sweeps.{ready-content}
 use Rattle.history.proofs.Logs.{Fine}
 use Rattle.history.proofs.Stands.{since}
@@ -31,7 +31,7 @@ granted-means : (w : World) → granted w ≡ true → Grantable (w .session) (w
 granted-means w x = granted-exactly .only (w .session) (w .table) (eqb-true _ _ x)
 
 -- in Blackout the whole log counts
-granted-fine : (w : World) → granted w ≡ true → Sound w → Fine (clockOf (w .session)) (w .log) (w .table)
+granted-fine : (w : World) → granted w ≡ true → Sound w → Fine (momentOf (w .session)) (w .log) (w .table)
 granted-fine w x f = rw (ap (λ (p : Phase). since p (w .log)) (granted-means w x .paused)) at (f .fine)
 
 -- ---- a page of the table, and one beyond it
@@ -55,7 +55,7 @@ safe-table h x l o i = go (decLt i (pageCount (w .table)))
     go (yes b) =
         let row = granted-fine w x (sound-end h) .rows i b in
         replay-past i _ (row .has) (w .log) l (row .past) (perm-reordered (o .same) (o .rising))
-        ∙ ready-content (clockOf (w .session)) (pageAt (w .table) i) (row .has) (granted-means w x .ready i b) (row .ok)
+        ∙ ready-content (momentOf (w .session)) (pageAt (w .table) i) (row .has) (granted-means w x .ready i b) (row .ok)
     go (no b) =
         let far : pageCount (w .table) ≤ i = omega (arith, b) in
         safe-beyond h x l o i far ∙ sym (beyond-absent (w .table) i far)

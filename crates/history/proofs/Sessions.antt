@@ -10,7 +10,7 @@ use lib.ListN.{getD, set, getD-replicate}
 use borrow.Author.Tests.{lt-ltb, leb-true, eqb-true, eqb-false}
 use Rattle.refusals.proofs.Laws.{not-true}
 use Rattle.table.specs.Table.{legal, mostPages}
-use Rattle.session.specs.Session.{among, moving, unchecked, resting, streamPlaces, atRest, workAt, newSession, begun, withPhase, withTlb, withEpoch, withCheck, withWork}
+use Rattle.session.specs.Session.{among, moving, unchecked, resting, streamPlaces, atRest, workAt, newSession, begun, withPhase, ticked, withClock, withEpoch, withCheck, withStreams, withWork}
 use Rattle.session.specs.Formed.{lastEpoch, fewestCreated, mostCreated, within, workResting, busy}
 use Rattle.session.specs.declared.Phase.{Phase}
 use Rattle.session.specs.declared.Phase.the-variants.{Idle, Live, Blackout, Done}
@@ -34,14 +34,14 @@ pub record Placed (c : Check) (pages : ℕ) : Type 0 where
   pub apart : c .complete ≡ true → c .failed ≡ false
 
 module _ {s : Session} {len : ℕ} (f : Formed s len) where
-  timed : Timed (s .phase) (s .tlb) (s .epoch)
+  timed : Timed (s .phase) (s .clock .tlb) (s .epoch)
   timed = record { tlb = f .tlb; idle = f .idle; begun = f .begun }
 
-  placed : Placed (s .check) (s .pages)
+  placed : Placed (s .check) (s .fixed .pages)
   placed = record { place = f .place; complete = f .complete; apart = f .apart }
 
   -- the guest is the same
-  again : (s' : Session) → s' .pages ≡ s .pages → s' .created ≡ s .created → Timed (s' .phase) (s' .tlb) (s' .epoch) → Placed (s' .check) (s .pages) → Streaming s' → Formed s' len
+  again : (s' : Session) → s' .fixed .pages ≡ s .fixed .pages → s' .fixed .created ≡ s .fixed .created → Timed (s' .phase) (s' .clock .tlb) (s' .epoch) → Placed (s' .check) (s .fixed .pages) → Streaming s' → Formed s' len
   again s' pages created t c streams =
       record {
         even = f .even;
@@ -81,9 +81,9 @@ rest-formed moves created i h = rw (getD-replicate streamPlaces i resting restin
 
 -- ---- the sessions
 
-pub track-formed : {s : Session} {len : ℕ} → Formed s len → s .tlb < lastEpoch → Formed (withTlb s (s .tlb + 1)) len
+pub track-formed : {s : Session} {len : ℕ} → Formed s len → s .clock .tlb < lastEpoch → Formed (withClock s (ticked (s .clock))) len
 track-formed {s} f h =
-    again f (withTlb s (s .tlb + 1)) refl refl
+    again f (withClock s (ticked (s .clock))) refl refl
     (record { tlb = record { low = omega arith; high = omega arith }; idle = f .idle; begun = f .begun })
     (placed f) (f .streams)
 
@@ -91,13 +91,13 @@ pub start-formed : {s : Session} {len : ℕ} → Formed s len → Formed (begun 
 start-formed {s} f =
     again f (begun s Live 1) refl refl
     (record { tlb = f .tlb; idle = λ q. absurd (not-idle moving Live refl refl q); begun = λ n. record { low = omega arith; high = omega arith } })
-    (unchecked-placed (s .pages)) (rest-formed true (s .created))
+    (unchecked-placed (s .fixed .pages)) (rest-formed true (s .fixed .created))
 
 pub abort-formed : {s : Session} {len : ℕ} → Formed s len → Formed (begun s Idle 0) len
 abort-formed {s} f =
     again f (begun s Idle 0) refl refl
     (record { tlb = f .tlb; idle = λ q. refl; begun = λ n. absurd (n refl) })
-    (unchecked-placed (s .pages)) (rest-formed false (s .created))
+    (unchecked-placed (s .fixed .pages)) (rest-formed false (s .fixed .created))
 
 -- streams may be interrupted in Blackout as in Live
 pub pause-formed : {s : Session} {len : ℕ} → Formed s len → among (Live ∷ []) (s .phase) ≡ true → Formed (withPhase s Blackout) len
@@ -106,7 +106,7 @@ pause-formed {s} f e =
     again f (withPhase s Blackout) refl refl
     (record { tlb = f .tlb; idle = λ q. absurd (not-idle moving Blackout refl refl q); begun = λ n. f .begun (not-idle (Live ∷ []) (s .phase) refl e) })
     (placed f)
-    (λ i h. subst (λ (p : Phase). WorkFormed (among moving p) (s .created) i (workAt s i)) live (f .streams i h))
+    (λ i h. subst (λ (p : Phase). WorkFormed (among moving p) (s .fixed .created) i (workAt s i)) live (f .streams i h))
 
 pub epoch-formed : {s : Session} {len : ℕ} → Formed s len → among moving (s .phase) ≡ true → s .epoch < lastEpoch → Formed (withEpoch s (s .epoch + 1)) len
 epoch-formed {s} f e h =
@@ -114,11 +114,11 @@ epoch-formed {s} f e h =
     (record { tlb = f .tlb; idle = λ q. absurd (not-idle moving (s .phase) refl e q); begun = λ n. record { low = omega arith; high = omega arith } })
     (placed f) (f .streams)
 
-pub check-formed : {s : Session} {len : ℕ} → Formed s len → (c : Check) → Placed c (s .pages) → Formed (withCheck s c) len
+pub check-formed : {s : Session} {len : ℕ} → Formed s len → (c : Check) → Placed c (s .fixed .pages) → Formed (withCheck s c) len
 check-formed {s} f c p = again f (withCheck s c) refl refl (timed f) p (f .streams)
 
 pub reset-formed : {s : Session} {len : ℕ} → Formed s len → Formed (withCheck s unchecked) len
-reset-formed {s} f = check-formed f unchecked (unchecked-placed (s .pages))
+reset-formed {s} f = check-formed f unchecked (unchecked-placed (s .fixed .pages))
 
 -- in Done no stream is interrupted, since none was
 resting-formed : (created i : ℕ) (r : Work) → workResting r ≡ true → WorkFormed false created i r
@@ -130,7 +130,7 @@ token-formed {s} f e rest =
     again f (withPhase s Done) refl refl
     (record { tlb = f .tlb; idle = λ q. absurd (not-idle (Done ∷ []) Done refl refl q); begun = λ n. f .begun (not-idle (Blackout ∷ []) (s .phase) refl e) })
     (placed f)
-    (λ i h. resting-formed (s .created) i (workAt s i) (busy-means s rest i h))
+    (λ i h. resting-formed (s .fixed .created) i (workAt s i) (busy-means s rest i h))
 
 -- ---- one stream
 
@@ -142,14 +142,14 @@ set-stream P (y ∷ l) zero (suc k) x new old = old
 set-stream P (y ∷ l) (suc i) zero x new old = old
 set-stream P (y ∷ l) (suc i) (suc k) x new old = set-stream P l i k x (λ e. new (ap suc e)) old
 
-pub run-formed : {s : Session} {len : ℕ} → Formed s len → (i : ℕ) → i < streamPlaces → (r : Work) → WorkFormed (among moving (s .phase)) (s .created) i r → Formed (withWork s i r) len
+pub run-formed : {s : Session} {len : ℕ} → Formed s len → (i : ℕ) → i < streamPlaces → (r : Work) → WorkFormed (among moving (s .phase)) (s .fixed .created) i r → Formed (withWork s i r) len
 unfolding withWork
 run-formed {s} f i h r e =
     rw (lt-ltb i streamPlaces h)
-    (again f (record { phase = s .phase; pages = s .pages; tlb = s .tlb; epoch = s .epoch; created = s .created; check = s .check; streams = set (s .streams) i (record { work = r }) }) refl refl
+    (again f (withStreams s (set (s .streams) i (record { work = r }))) refl refl
     (timed f) (placed f)
     (λ k b.
-    set-stream (λ (z : Stream). WorkFormed (among moving (s .phase)) (s .created) k (z .work)) (s .streams) i k (record { work = r })
+    set-stream (λ (z : Stream). WorkFormed (among moving (s .phase)) (s .fixed .created) k (z .work)) (s .streams) i k (record { work = r })
     (λ q. rw q e)
     (f .streams k b)))
 

@@ -26,7 +26,7 @@ use Rattle.calls.specs.declared.Call.{Call}
 use Rattle.calls.specs.declared.Call.the-variants.{New, Write, Add, Accept, Block, Unblock, Remove, Track, Start, Pause, Abort, NewEpoch, Reset, StartToken, Dscan, Dcheck, Export}
 use Rattle.bundle.specs.Bundle.{Holding}
 use Rattle.history.specs.History.{Given, given, World, leftBy, after, run, newWorld, History, atEnd}
-use Rattle.history.proofs.Pages.{Ok, clockOf}
+use Rattle.history.proofs.Pages.{Ok, momentOf}
 use Rattle.history.proofs.Sweeps.{started-ok}
 use Rattle.history.proofs.Rows.{swept, rows-anew}
 use Rattle.history.proofs.Logs.{Orderly, orderly-none, fine-none}
@@ -49,8 +49,8 @@ start-sound w l b f =
     record {
       orderly = rw e orderly-none;
       fine = rw e
-          (fine-none (rows-anew sweep.Start (clockOf s) (clockOf (begun s Live 1)) (since (s .phase) (w .log)) t
-          (λ i h v k. started-ok (clockOf s) (clockOf (begun s Live 1)) (pageAt t i) (some-none unstartable t (o .passed .0) i h) refl refl v k)
+          (fine-none (rows-anew sweep.Start (momentOf s) (momentOf (begun s Live 1)) (since (s .phase) (w .log)) t
+          (λ i h v k. started-ok (momentOf s) (momentOf (begun s Live 1)) (pageAt t i) (some-none unstartable t (o .passed .0) i h) refl refl v k)
           (f .fine .rows)));
     })
     (λ e. record { orderly = rw e (f .orderly); fine = rw e (f .fine) })
@@ -109,5 +109,5 @@ pub sound-end : (h : History) → Sound (atEnd h)
 sound-end h = run-sound (newWorld (h .session) (h .words) (h .created)) (h .calls) (new-sound (h .session) (h .words) (h .created) (h .new))
 
 -- what the destination has of a page goes with it
-pub sound-ok : (w : World) → Sound w → (i : ℕ) → i < pageCount (w .table) → (h : Holding) × Ok (clockOf (w .session)) (pageAt (w .table) i) h
+pub sound-ok : (w : World) → Sound w → (i : ℕ) → i < pageCount (w .table) → (h : Holding) × Ok (momentOf (w .session)) (pageAt (w .table) i) h
 sound-ok w f i h = let row = f .fine .rows i h in (row .has, row .ok)

@@ -15,7 +15,7 @@ use Rattle.page.specs.declared.moves.Move.{Move}
 use Rattle.page.specs.declared.sweeps.Sweep.the-variants as sweep
 use Rattle.table.specs.Table.{pageCount, wordsAt, pageAt, putAt, some}
 use Rattle.table.proofs.Laws.{some-none}
-use Rattle.session.specs.Session.{guest, begun, withPhase, withTlb, withEpoch, withCheck, unchecked, newSession}
+use Rattle.session.specs.Session.{guest, begun, withPhase, ticked, withClock, withEpoch, withCheck, unchecked, newSession}
 use Rattle.session.specs.Formed.{busy}
 use Rattle.session.specs.Outcome.{Outcome}
 use Rattle.session.specs.declared.Phase.{Phase}
@@ -33,7 +33,7 @@ use Rattle.scan.proofs.Laws.{dscan-fits, dcheck-fits}
 use Rattle.scan.proofs.Outcomes.{answer-session, dscanned, dscan-either, dchecked, dcheck-either}
 use Rattle.bundle.specs.Bundle.{absent, Sent}
 use Rattle.bundle.proofs.Replay.{past-none}
-use Rattle.history.proofs.Pages.{clockOf}
+use Rattle.history.proofs.Pages.{momentOf}
 use Rattle.history.proofs.Moves.{still-guest}
 use Rattle.history.proofs.Contents.{zero-page}
 use Rattle.history.proofs.Sweeps.{uncached-step, session-step, aborted-ok}
@@ -50,7 +50,7 @@ since Done log = log
 
 -- what a session, a table and a log say together
 abbrev pub Stands : Session → List ℕ → List Sent → Type 0
-Stands s t log = Fine (clockOf s) (since (s .phase) log) t
+Stands s t log = Fine (momentOf s) (since (s .phase) log) t
 
 pub since-begun : (p : Phase) (log : List Sent) → (p ≡ Idle → ⊥) → since p log ≡ log
 since-begun Idle log n = absurd (n refl)
@@ -66,7 +66,7 @@ anew-stands pages created n log =
     fine-none
     (λ i h. rw (zero-page n i) (record {
       has = absent;
-      ok = record { known = refl; young = omega arith; there = refl; same = (tt, tt); seen = λ a b x. refl; still = tt };
+      ok = record { known = refl; young = omega arith; there = refl; same = (tt, tt); seen = λ a x. refl; still = tt };
       past = past-none i;
     }))
 
@@ -97,7 +97,7 @@ module _ (s : Session) (t : List ℕ) (log : List Sent) (f : Stands s t log) whe
   pub track-stands : Leaves log (trackOut s t)
   unfolding trackOut trackCode
   track-stands =
-      answered-either (Leaves log) (trackCode s (length t)) s t (withTlb s (s .tlb + 1)) (swept sweep.Uncache t)
+      answered-either (Leaves log) (trackCode s (length t)) s t (withClock s (ticked (s .clock))) (swept sweep.Uncache t)
       (λ e.
       let o = gate-open s (length t) guest (trackTests s) refl (eqb-true _ _ e) in
       fine-steps (omega arith) (sweep-steps sweep.Uncache _ _ t (λ i h. uncached-step _ _ (pageAt t i) (omega arith) (λ u. still-guest (s .phase) (o .comes) _ _))) f)
@@ -120,7 +120,7 @@ module _ (s : Session) (t : List ℕ) (log : List Sent) (f : Stands s t log) whe
   unfolding abortOut
   abort-stands =
       answered-either (Leaves log) (abortCode s (length t)) s t (begun s Idle 0) (swept sweep.Abort t)
-      (λ e. fine-none (rows-anew sweep.Abort (clockOf s) (clockOf (begun s Idle 0)) (since (s .phase) log) t (λ i h v o. aborted-ok (clockOf s) (clockOf (begun s Idle 0)) (pageAt t i) refl refl v o) (f .rows)))
+      (λ e. fine-none (rows-anew sweep.Abort (momentOf s) (momentOf (begun s Idle 0)) (since (s .phase) log) t (λ i h v o. aborted-ok (momentOf s) (momentOf (begun s Idle 0)) (pageAt t i) refl refl v o) (f .rows)))
       (λ e. f)
 
   pub epoch-stands : Leaves log (newEpochOut s t)
@@ -142,14 +142,14 @@ module _ (s : Session) (t : List ℕ) (log : List Sent) (f : Stands s t log) whe
       (λ e.
       let o = gate-open s (length t) (Blackout ∷ []) (tokenTests s t) refl (eqb-true _ _ e) in
       fine-steps (omega arith)
-      (record { size = refl; at = λ i h. session-step (clockOf s) (clockOf (withPhase s Done)) (pageAt t i) (omega arith) refl (λ u. tt) })
+      (record { size = refl; at = λ i h. session-step (momentOf s) (momentOf (withPhase s Done)) (pageAt t i) (omega arith) refl (λ u. tt) })
       (rw (since-begun (s .phase) log (not-idle (Blackout ∷ []) (s .phase) refl (o .comes))) at f))
       (λ e. f)
 
   -- ---- the scans
 
-  scan-stands : (count : ℕ) (scan : Scan) (l : List ℕ) → scan .tlb ≡ s .tlb → s .tlb < 2 ^ 16 → 2 * scan .first + 2 * count ≤ length t → Stands s (rangeRun count scan t l .part) log
-  scan-stands count scan l e small fits = fine-steps (omega arith) (scan-steps (clockOf s) count scan t l e small fits) f
+  scan-stands : (count : ℕ) (scan : Scan) (l : List ℕ) → scan .clock ≡ s .clock → s .clock .tlb < 2 ^ 16 → 2 * scan .first + 2 * count ≤ length t → Stands s (rangeRun count scan t l .part) log
+  scan-stands count scan l e small fits = fine-steps (omega arith) (scan-steps (momentOf s) count scan t l e small fits) f
 
   pub dscan-stands : (l : List ℕ) (first count budget : ℕ) → Stands (dscanOut s t l first count budget .answer .session) (dscanOut s t l first count budget .table) log
   unfolding dscanCode
@@ -168,5 +168,5 @@ module _ (s : Session) (t : List ℕ) (log : List Sent) (f : Stands s t log) whe
       (λ z.
       let o = gate-open s (length t) (Blackout ∷ []) (dcheckTests s (length l)) refl z in
       rw (answer-session (dchecked s t l budget .scanned) (checkedBy s (dchecked s t l budget .scanned)))
-      (scan-stands (s .pages - s .check .place) (dcheckOf s budget) l refl (tlb-fits s (length t) (o .formed)) (dcheck-fits s (length t) (length l) z .1 .0)))
+      (scan-stands (s .fixed .pages - s .check .place) (dcheckOf s budget) l refl (tlb-fits s (length t) (o .formed)) (dcheck-fits s (length t) (length l) z .1 .0)))
       f

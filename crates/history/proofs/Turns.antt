@@ -107,7 +107,7 @@ module _ (word i : ℕ) (w : PageWords) (g : Ground) (small : g .epoch < 2 ^ 16)
               due .able,
               (
                 ne-eqb (pageOf w .migrated) (g .epoch) (λ e. omega arith),
-                (due .clean, (unstamped (not (cancelled (pageOf w))) (among (Live ∷ []) (g .phase)) (not (tracked (pageOf w .stamp) (g .tlb))) (ap (among (Live ∷ [])) paused), tt)),
+                (due .clean, (unstamped (not (cancelled (pageOf w))) (among (Live ∷ []) (g .phase)) (not (tracked (pageOf w .stamp) (g .clock))) (ap (among (Live ∷ [])) paused), tt)),
               ),
             ),
           ),

@@ -116,7 +116,7 @@ total (n ∷ l) = n + total l
 
 -- a usable stream, a buffer of the list's length, and budgets that come to the list's end
 pub record Whole (w : World) (x : Sending) : Type 0 where
-  pub usable : x .stream + 1 < w .session .created
+  pub usable : x .stream + 1 < w .session .fixed .created
   pub buffer : length (x .buffer) ≡ length (x .list)
   pub hpa : x .hpa < 2 ^ 40
   pub budgets : length (x .list) ≤ total (x .budgets)

@@ -11,6 +11,7 @@ use Rattle.refusals.specs.Refusals.{firstOf}
 use Rattle.refusals.proofs.Laws.{Passed, coded, passed, not-false}
 use Rattle.page.specs.Page.{Page, onWords, unlessStrange}
 use Rattle.page.specs.Moves.{moveTests, movedBy}
+use Rattle.page.specs.declared.Clock.{Clock}
 use Rattle.page.specs.declared.moves.Move.{Move}
 use Rattle.page.specs.declared.moves.Move.the-variants.{Write, Add, Accept, Block, Unblock, Remove}
 use Rattle.page.proofs.Laws.{read-held}
@@ -34,10 +35,10 @@ pub track-answer : (s : Session) (len : ℕ) (t : List ℕ) → length t ≡ len
 unfolding trackAnswer trackOut answered
 track-answer s len t e = rw (← e)
 
-pub track-room : (s : Session) (len : ℕ) → trackCode s len ≡ 0 → s .tlb < lastEpoch
+pub track-room : (s : Session) (len : ℕ) → trackCode s len ≡ 0 → s .clock .tlb < lastEpoch
 unfolding trackCode
 track-room s len e =
-    leb-false lastEpoch (s .tlb) (gate-open s len guest (trackTests s) refl e .passed .0)
+    leb-false lastEpoch (s .clock .tlb) (gate-open s len guest (trackTests s) refl e .passed .0)
 
 -- ---- a call on one page that is done
 
@@ -47,27 +48,27 @@ unfolding onPage pageTurn
 page-turn m s t at = refl
 
 -- its tests have codes of their own
-pub move-coded : (m : Move) (p : Page) (tlb : ℕ) → coded (moveTests m p tlb) ≡ true
-move-coded (Write mark) p tlb = refl
-move-coded Add p tlb = refl
-move-coded Accept p tlb = refl
-move-coded Block p tlb = refl
-move-coded Unblock p tlb = refl
-move-coded Remove p tlb = refl
+pub move-coded : (m : Move) (p : Page) (clock : Clock) → coded (moveTests m p clock) ≡ true
+move-coded (Write mark) p clock = refl
+move-coded Add p clock = refl
+move-coded Accept p clock = refl
+move-coded Block p clock = refl
+move-coded Unblock p clock = refl
+move-coded Remove p clock = refl
 
 -- it has passed them
 pub record Done (m : Move) (s : Session) (len at : ℕ) (p : Page) : Type 0 where
   pub formed : formed s len ≡ true
   pub comes : among guest (s .phase) ≡ true
   pub below : at < len / 2
-  pub moves : Passed (moveTests m p (s .tlb))
+  pub moves : Passed (moveTests m p (s .clock))
 
 pub page-passed : (m : Move) (s : Session) (len at : ℕ) (p : Page) → firstOf (pageTests m s len at p) ≡ 0 → Done m s len at p
 page-passed m s len at p e =
-    let d = passed (pageTests m s len at p) (move-coded m p (s .tlb)) e in
+    let d = passed (pageTests m s len at p) (move-coded m p (s .clock)) e in
     let f = not-false (formed s len) (d .0) in
-    let ours : len / 2 ≡ s .pages = formed-means s len f .ours in
-    let below : at < s .pages = leb-false (s .pages) at (d .1 .1 .1 .0) in
+    let ours : len / 2 ≡ s .fixed .pages = formed-means s len f .ours in
+    let below : at < s .fixed .pages = leb-false (s .fixed .pages) at (d .1 .1 .1 .0) in
     record { formed = f; comes = not-false (among guest (s .phase)) (d .1 .1 .0); below = omega arith; moves = d .1 .1 .1 .1 }
 
 module _ (m : Move) (s : Session) (t : List ℕ) (at : ℕ) where
@@ -75,7 +76,7 @@ module _ (m : Move) (s : Session) (t : List ℕ) (at : ℕ) where
   code = firstOf (pageTests m s (length t) at (pageAt t at))
 
   abbrev made : List ℕ
-  made = putAt t at (onWords (movedBy m (s .tlb)) (wordsAt t at))
+  made = putAt t at (onWords (movedBy m (s .clock)) (wordsAt t at))
 
   -- what holds of the outcome of a call that is done and of the one that gives back what came
   pub page-either : (P : Outcome → Type 0) → (Done m s (length t) at (pageAt t at) → P (outcome 0 s made)) → (eqb code 0 ≡ false → P (outcome code s t)) → P (onPage m s t at)
@@ -89,14 +90,14 @@ module _ (m : Move) (s : Session) (t : List ℕ) (at : ℕ) where
   unfolding onPage
   page-code = answered-either (λ (o : Outcome). o .answer .code ≡ code) code s t s made (λ q. refl) (λ q. refl)
 
-  pub page-done : onPage m s t at .answer .code ≡ 0 → pageAt (onPage m s t at .table) at ≡ movedBy m (s .tlb) (pageAt t at)
+  pub page-done : onPage m s t at .answer .code ≡ 0 → pageAt (onPage m s t at .table) at ≡ movedBy m (s .clock) (pageAt t at)
   unfolding unlessStrange
   page-done =
-      page-either (λ (o : Outcome). o .answer .code ≡ 0 → pageAt (o .table) at ≡ movedBy m (s .tlb) (pageAt t at))
-      (λ d z. rw (done-known m (pageAt t at) (s .tlb) (d .moves)) at (page-put (movedBy m (s .tlb)) t at (d .below) (λ k. moved-held m (s .tlb) (tlb-fits s (length t) (d .formed)) (pageAt t at) (read-held (wordsAt t at) k))))
+      page-either (λ (o : Outcome). o .answer .code ≡ 0 → pageAt (o .table) at ≡ movedBy m (s .clock) (pageAt t at))
+      (λ d z. rw (done-known m (pageAt t at) (s .clock) (d .moves)) at (page-put (movedBy m (s .clock)) t at (d .below) (λ k. moved-held m (s .clock) (tlb-fits s (length t) (d .formed)) (pageAt t at) (read-held (wordsAt t at) k))))
       (λ q z. absurd (eqb-false code 0 q z))
 
 -- and a page that it is not on
 pub page-other : (m : Move) (s : Session) (t : List ℕ) (at k : ℕ) → (k ≡ at → ⊥) → wordsAt (onPage m s t at .table) k ≡ wordsAt t k
 page-other m s t at k ne =
-    page-either m s t at (λ (o : Outcome). wordsAt (o .table) k ≡ wordsAt t k) (λ d. put-other t at k (onWords (movedBy m (s .tlb)) (wordsAt t at)) ne) (λ q. refl)
+    page-either m s t at (λ (o : Outcome). wordsAt (o .table) k ≡ wordsAt t k) (λ d. put-other t at k (onWords (movedBy m (s .clock)) (wordsAt t at)) ne) (λ q. refl)

@@ -13,7 +13,7 @@ use Rattle.page.specs.declared.PageWords.{PageWords}
 use Rattle.page.specs.declared.moves.Move.{Move}
 use Rattle.page.specs.declared.moves.Move.the-variants.{Write, Add, Accept, Block, Unblock, Remove}
 use Rattle.table.specs.Table.{legal, pageCount, wordsAt, pageAt, putAt}
-use Rattle.session.specs.Session.{among, guest, newSession, withTlb}
+use Rattle.session.specs.Session.{among, guest, newSession, ticked, withClock}
 use Rattle.session.specs.Formed.{formed, gated, within, fewestCreated, mostCreated, lastEpoch}
 use Rattle.session.specs.Outcome.{Outcome, answerFor, answered, answeredBy}
 use Rattle.session.specs.declared.Phase.the-variants.{Blackout}
@@ -53,16 +53,16 @@ pageTests m s len at p =
     not (formed s len) gives codes.malformed
     ∷ (isBlock m && among (Blackout ∷ []) (s .phase)) gives codes.blockingDisallowed
     ∷ not (among guest (s .phase)) gives codes.opStateIncorrect
-    ∷ leb (s .pages) at gives codes.operandInvalid
-    ∷ moveTests m p (s .tlb)
+    ∷ leb (s .fixed .pages) at gives codes.operandInvalid
+    ∷ moveTests m p (s .clock)
 
 unfoldable pub onPage : Move → Session → List ℕ → ℕ → Outcome
 onPage m s t at =
-    answered (firstOf (pageTests m s (length t) at (pageAt t at))) s t s (putAt t at (onWords (movedBy m (s .tlb)) (wordsAt t at)))
+    answered (firstOf (pageTests m s (length t) at (pageAt t at))) s t s (putAt t at (onWords (movedBy m (s .clock)) (wordsAt t at)))
 
 -- the same on the page's two words: the code, and the words if it is 0
 unfoldable pub pageTurn : Move → Session → ℕ → ℕ → PageWords → Turn
-pageTurn m s len at w = record { code = firstOf (pageTests m s len at (pageOf w)); words = onWords (movedBy m (s .tlb)) w }
+pageTurn m s len at w = record { code = firstOf (pageTests m s len at (pageOf w)); words = onWords (movedBy m (s .clock)) w }
 
 unfoldable pub writeOut : Session → List ℕ → ℕ → ℕ → Outcome
 writeOut s t at mark = onPage (Write mark) s t at
@@ -86,15 +86,15 @@ removeOut s t at = onPage Remove s t at
 
 -- 56 at the limit
 abbrev pub trackTests : Session → List Test
-trackTests s = leb lastEpoch (s .tlb) gives codes.tlbEpochAtLimit ∷ []
+trackTests s = leb lastEpoch (s .clock .tlb) gives codes.tlbEpochAtLimit ∷ []
 
 unfoldable pub trackCode : Session → ℕ → ℕ
 trackCode s len = gated s len guest (trackTests s)
 
 -- TLB epoch plus one
 unfoldable pub trackAnswer : Session → ℕ → Answer
-trackAnswer s len = answerFor (trackCode s len) s (withTlb s (s .tlb + 1))
+trackAnswer s len = answerFor (trackCode s len) s (withClock s (ticked (s .clock)))
 
 -- and every Cached bit cleared
 unfoldable pub trackOut : Session → List ℕ → Outcome
-trackOut s t = answeredBy uncached (trackCode s (length t)) s (withTlb s (s .tlb + 1)) t
+trackOut s t = answeredBy uncached (trackCode s (length t)) s (withClock s (ticked (s .clock))) t

@@ -4,6 +4,7 @@ ghost use Rattle.refusals.specs.Refusals.{firstOf};
 ghost use Rattle.page.specs.Page.{pageOf};
 ghost use Rattle.memory.specs.Memory.{newCode, newAnswer, newOut, isBlock, pageTests, pageTurn, onPage};
 ghost use Rattle.memory.specs.Memory.{writeOut, addOut, acceptOut, blockOut, unblockOut, removeOut, trackCode, trackAnswer, trackOut};
+use page::Clock;
 use page::PageWords;
 use page::moves;
 use page::moves::Move;
@@ -72,7 +73,7 @@ fn page_code(m: Move, s: Session, len: usize, at: usize, w: PageWords) -> u64
     let comes = session::comes_in(p);
     let block = is_block(m);
     let formed = session::is_formed(s, len);
-    let beyond = s.pages <= at;
+    let beyond = s.fixed.pages <= at;
     let barred = block & comes.blackout;
     let away = !comes.guest;
     if !formed {
@@ -87,7 +88,7 @@ fn page_code(m: Move, s: Session, len: usize, at: usize, w: PageWords) -> u64
     if beyond {
         return codes::OPERAND_INVALID;
     }
-    moves::move_code(m, w, s.tlb)
+    moves::move_code(m, w, s.clock)
 }
 
 // What a call on one page comes to: its code, and the page's two words if that is 0.
@@ -101,7 +102,7 @@ pub fn on_words(m: Move, s: Session, len: usize, at: usize, w: PageWords) -> Tur
     ensures { λ r. ⌜ r ≡ pageTurn m s len at w ⌝ }
 {
     let code = page_code(m, s, len, at, w);
-    let words = moves::move_words(m, w, s.tlb);
+    let words = moves::move_words(m, w, s.clock);
     Turn { code, words }
 }
 
@@ -170,7 +171,7 @@ fn track_code(s: Session, len: usize) -> u64
     if gate != codes::DONE {
         return gate;
     }
-    if session::LAST_EPOCH <= s.tlb {
+    if session::LAST_EPOCH <= s.clock.tlb {
         return codes::TLB_EPOCH_AT_LIMIT;
     }
     codes::DONE
@@ -184,7 +185,8 @@ pub fn track_answer(s: Session, len: usize) -> Answer
     if code != codes::DONE {
         return Answer { code, session: s };
     }
-    let session = session::with_tlb(s, s.tlb + 1);
+    let tlb = s.clock.tlb + 1;
+    let session = session::with_clock(s, Clock { tlb });
     Answer { code, session }
 }
 

@@ -152,7 +152,7 @@ names-the-lowest = record { changed = lowest-53; unsent = lowest-54; before = no
 
 abbrev paused : Session
 paused =
-    record { phase = Blackout; pages = 3; tlb = 2; epoch = 1; created = 2; check = record { place = 3; complete = true; failed = false }; streams = atRest }
+    record { phase = Blackout; epoch = 1; fixed = record { pages = 3; created = 2 }; clock = record { tlb = 2 }; check = record { place = 3; complete = true; failed = false }; streams = atRest }
 
 abbrev exported : List ℕ
 exported = 0 ∷ 0 ∷ 24 ∷ 7 ∷ 29 ∷ 0 ∷ []

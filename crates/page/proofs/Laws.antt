@@ -1,10 +1,11 @@
 -- Reading a page and writing it back undo each other; what a move makes of a page is what its words say afterwards.
 use mathlib.Core.Path.{_≡_, refl, sym, ap, ap₂, _∙_}
-use mathlib.Core.Bool.{Bool, true, false, cond, _&&_, true≢false}
+use mathlib.Core.Bool.{Bool, true, false, cond, not, _&&_, and-false, true≢false}
 use mathlib.Core.List.{List}
 use Prim.Native.Nat.{ℕ, _^_, _<_}
+use native.Mathlib.Omega.{arith}
 use lib.Dec.{eqb, lit<}
-use borrow.Author.Tests.{eqb-true}
+use borrow.Author.Tests.{eqb-true, le-ltb}
 use Rattle.refusals.proofs.Laws.{and-left, and-right}
 use Rattle.words.specs.Runs.{low}
 use Rattle.records.specs.Record.{recordOf, recordWord, lowered, RecordFits, plain, withStamp}
@@ -12,7 +13,8 @@ use Rattle.records.specs.declared.Record.{Record}
 use Rattle.records.proofs.RecordLaws.{record-word, record-low, record-fits, word-lowered}
 use Rattle.states.specs.States.{State, Strange, Change, stateOf, numberOf, isStrange, goesBy, numberBy}
 use Rattle.states.proofs.Laws.{number-lt, state-number, number-state, number-by}
-use Rattle.page.specs.Page.{Page, stateRead, pageOf, numberRead, strange, recordFor, wordsFor, onWords, unlessStrange}
+use Rattle.page.specs.Page.{Page, stateRead, pageOf, numberRead, strange, recordFor, wordsFor, onWords, unlessStrange, tracked}
+use Rattle.page.specs.declared.Clock.{Clock}
 use Rattle.page.specs.declared.PageWords.{PageWords}
 
 -- a record can hold the page
@@ -121,3 +123,9 @@ page-moved f w h = by (strange (pageOf w)) refl
     by : (b : Bool) → strange (pageOf w) ≡ b → pageOf (cond b w (wordsFor (f (pageOf w)))) ≡ cond b (pageOf w) (f (pageOf w))
     by true e = refl
     by false e = read-written (f (pageOf w)) (h e)
+
+-- ---- a page that was stamped just now is not tracked
+
+pub now-untracked : (clock : Clock) → tracked (clock .tlb) clock ≡ false
+unfolding tracked
+now-untracked clock = rw (le-ltb (clock .tlb) (clock .tlb) (omega arith)) (and-false (not (eqb (clock .tlb) 0)))

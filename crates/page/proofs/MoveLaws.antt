@@ -12,6 +12,7 @@ use Rattle.states.proofs.Laws.{strange-is, Each, goes-each}
 use Rattle.page.specs.Page.{Page, pageOf, strange}
 use Rattle.page.specs.Moves.{changesOf, writable, moveTests, movedBy}
 use Rattle.page.specs.Sweeps.{keptStamp, refreshed, sweptBy}
+use Rattle.page.specs.declared.Clock.{Clock}
 use Rattle.page.specs.declared.PageWords.{PageWords}
 use Rattle.page.specs.declared.moves.Move.{Move}
 use Rattle.page.specs.declared.moves.Move.the-variants.{Write, Add, Accept, Block, Unblock, Remove}
@@ -51,14 +52,14 @@ no-write p q = by (strange p) refl
     by false e = refl
 
 -- so one that has passed its tests found no strange page
-pub done-known : (m : Move) (p : Page) (tlb : ℕ) → Passed (moveTests m p tlb) → strange p ≡ false
+pub done-known : (m : Move) (p : Page) (clock : Clock) → Passed (moveTests m p clock) → strange p ≡ false
 unfolding hasMove
-done-known (Write mark) p tlb d = no-write p (d .0)
-done-known Add p tlb d = no-move adds refl (p .state) (d .0)
-done-known Accept p tlb d = no-move accepts refl (p .state) (d .0)
-done-known Block p tlb d = no-move blocks refl (p .state) (d .0)
-done-known Unblock p tlb d = no-move unblocks refl (p .state) (d .0)
-done-known Remove p tlb d = no-move removes refl (p .state) (d .0)
+done-known (Write mark) p clock d = no-write p (d .0)
+done-known Add p clock d = no-move adds refl (p .state) (d .0)
+done-known Accept p clock d = no-move accepts refl (p .state) (d .0)
+done-known Block p clock d = no-move blocks refl (p .state) (d .0)
+done-known Unblock p clock d = no-move unblocks refl (p .state) (d .0)
+done-known Remove p clock d = no-move removes refl (p .state) (d .0)
 
 -- ---- what a record holds
 
@@ -79,13 +80,13 @@ known-by : (l : List Change) → Known l → (z : State) → isStrange z ≡ fal
 known-by l k z e = goes-each (λ (x to : State). isStrange to ≡ false) l k z e
 
 -- with a TLB epoch that a stamp can hold
-pub moved-held : (m : Move) (tlb : ℕ) → tlb < 2 ^ 16 → (p : Page) → Held p → Held (movedBy m tlb p)
-moved-held (Write mark) tlb r p h = record { known = h .known; stamp = h .stamp; migrated = h .migrated }
-moved-held Add tlb r p h = record { known = known-by adds (knows Add) (p .state) (h .known); stamp = lit< tt; migrated = h .migrated }
-moved-held Accept tlb r p h = record { known = known-by accepts (knows Accept) (p .state) (h .known); stamp = lit< tt; migrated = h .migrated }
-moved-held Block tlb r p h = record { known = known-by blocks (knows Block) (p .state) (h .known); stamp = r; migrated = h .migrated }
-moved-held Unblock tlb r p h = record { known = known-by unblocks (knows Unblock) (p .state) (h .known); stamp = lit< tt; migrated = h .migrated }
-moved-held Remove tlb r p h = record { known = known-by removes (knows Remove) (p .state) (h .known); stamp = lit< tt; migrated = h .migrated }
+pub moved-held : (m : Move) (clock : Clock) → clock .tlb < 2 ^ 16 → (p : Page) → Held p → Held (movedBy m clock p)
+moved-held (Write mark) clock r p h = record { known = h .known; stamp = h .stamp; migrated = h .migrated }
+moved-held Add clock r p h = record { known = known-by adds (knows Add) (p .state) (h .known); stamp = lit< tt; migrated = h .migrated }
+moved-held Accept clock r p h = record { known = known-by accepts (knows Accept) (p .state) (h .known); stamp = lit< tt; migrated = h .migrated }
+moved-held Block clock r p h = record { known = known-by blocks (knows Block) (p .state) (h .known); stamp = r; migrated = h .migrated }
+moved-held Unblock clock r p h = record { known = known-by unblocks (knows Unblock) (p .state) (h .known); stamp = lit< tt; migrated = h .migrated }
+moved-held Remove clock r p h = record { known = known-by removes (knows Remove) (p .state) (h .known); stamp = lit< tt; migrated = h .migrated }
 
 refreshed-held : (p : Page) (to : State) → isStrange to ≡ false → Held p → Held (refreshed p to)
 unfolding keptStamp

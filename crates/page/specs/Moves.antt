@@ -7,6 +7,7 @@ use Rattle.refusals.specs.Refusals.{Test, _gives_}
 use Rattle.states.specs.States.{State, Change, isIn, hasMove, goesBy}
 use Rattle.states.specs.Lists.{writableStates, landingStates, adds, accepts, blocks, unblocks, removes}
 use Rattle.page.specs.Page.{Page, tracked}
+use Rattle.page.specs.declared.Clock.{Clock}
 use Rattle.page.specs.declared.moves.Move.{Move}
 use Rattle.page.specs.declared.moves.Move.the-variants.{Write, Add, Accept, Block, Unblock, Remove}
 
@@ -24,15 +25,15 @@ unfoldable pub writable : Page → Bool
 writable p = isIn (p .state) writableStates || (isIn (p .state) landingStates && p .cached)
 
 -- write, add, accept, block: else 45; unblock and remove: other states 46, then stamp 0 or stamp ≥ TLB epoch is 47
-abbrev pub moveTests : Move → Page → ℕ → List Test
-moveTests (Write mark) p tlb = not (writable p) gives codes.eptEntryStateIncorrect ∷ []
-moveTests Add p tlb = not (hasMove adds (p .state)) gives codes.eptEntryStateIncorrect ∷ []
-moveTests Accept p tlb = not (hasMove accepts (p .state)) gives codes.eptEntryStateIncorrect ∷ []
-moveTests Block p tlb = not (hasMove blocks (p .state)) gives codes.eptEntryStateIncorrect ∷ []
-moveTests Unblock p tlb =
-    not (hasMove unblocks (p .state)) gives codes.gpaRangeNotBlocked ∷ not (tracked (p .stamp) tlb) gives codes.tlbTrackingNotDone ∷ []
-moveTests Remove p tlb =
-    not (hasMove removes (p .state)) gives codes.gpaRangeNotBlocked ∷ not (tracked (p .stamp) tlb) gives codes.tlbTrackingNotDone ∷ []
+abbrev pub moveTests : Move → Page → Clock → List Test
+moveTests (Write mark) p clock = not (writable p) gives codes.eptEntryStateIncorrect ∷ []
+moveTests Add p clock = not (hasMove adds (p .state)) gives codes.eptEntryStateIncorrect ∷ []
+moveTests Accept p clock = not (hasMove accepts (p .state)) gives codes.eptEntryStateIncorrect ∷ []
+moveTests Block p clock = not (hasMove blocks (p .state)) gives codes.eptEntryStateIncorrect ∷ []
+moveTests Unblock p clock =
+    not (hasMove unblocks (p .state)) gives codes.gpaRangeNotBlocked ∷ not (tracked (p .stamp) clock) gives codes.tlbTrackingNotDone ∷ []
+moveTests Remove p clock =
+    not (hasMove removes (p .state)) gives codes.gpaRangeNotBlocked ∷ not (tracked (p .stamp) clock) gives codes.tlbTrackingNotDone ∷ []
 
 -- the mark is stored; Dirty is set only if Cached is clear, and not in 1 and 26; then Cached is set
 abbrev pub stored : Page → ℕ → Page
@@ -47,10 +48,10 @@ abbrev pub restamped : Page → State → ℕ → Page
 restamped p to stamp = record { state = to; dirty = p .dirty; cached = p .cached; stamp = stamp; migrated = p .migrated; mark = p .mark }
 
 -- what a call that is done makes of its page: a blocked page's stamp becomes the TLB epoch, an unblocked one's 0
-abbrev pub movedBy : Move → ℕ → Page → Page
-movedBy (Write mark) tlb p = stored p mark
-movedBy Add tlb p = emptied p (goesBy adds (p .state))
-movedBy Accept tlb p = emptied p (goesBy accepts (p .state))
-movedBy Block tlb p = restamped p (goesBy blocks (p .state)) tlb
-movedBy Unblock tlb p = restamped p (goesBy unblocks (p .state)) 0
-movedBy Remove tlb p = emptied p (goesBy removes (p .state))
+abbrev pub movedBy : Move → Clock → Page → Page
+movedBy (Write mark) clock p = stored p mark
+movedBy Add clock p = emptied p (goesBy adds (p .state))
+movedBy Accept clock p = emptied p (goesBy accepts (p .state))
+movedBy Block clock p = restamped p (goesBy blocks (p .state)) (clock .tlb)
+movedBy Unblock clock p = restamped p (goesBy unblocks (p .state)) 0
+movedBy Remove clock p = emptied p (goesBy removes (p .state))

@@ -6,6 +6,7 @@ use Rattle.records.specs.Record.{recordOf, recordWord, plain}
 use Rattle.records.specs.declared.Record.{Record}
 use Rattle.states.specs.States.{State, Strange, strangeNumber, stateOf, numberOf, isStrange, isIn}
 use Rattle.states.specs.Lists.{startableStates, blockedStates, changedStates, sentStates, unsentStates}
+use Rattle.page.specs.declared.Clock.{Clock}
 use Rattle.page.specs.declared.PageWords.{PageWords}
 use Rattle.page.specs.declared.queries.Sought.{Sought}
 use Rattle.page.specs.declared.queries.Sought.the-variants.{Blocked, Unstartable, Gives53, Gives54}
@@ -53,8 +54,8 @@ unlessStrange f p = cond (strange p) p (f p)
 -- ---- what is asked of a page
 
 -- every translation from before the stamp is gone: neither stamp 0 nor stamp ≥ TLB epoch
-unfoldable pub tracked : ℕ → ℕ → Bool
-tracked stamp tlb = not (eqb stamp 0) && ltb stamp tlb
+unfoldable pub tracked : ℕ → Clock → Bool
+tracked stamp clock = not (eqb stamp 0) && ltb stamp (clock .tlb)
 
 abbrev pub blocked : Page → Bool
 blocked p = isIn (p .state) blockedStates

@@ -19,6 +19,11 @@ pub struct PageWords {
     pub mark: u64,
 }
 
+// What decides whether a page's old translations are gone: the TLB epoch, with which a page is also stamped.
+pub struct Clock {
+    pub tlb: u64,
+}
+
 // An unlisted number, so that it names no state.
 const STRANGE: u8 = 255;
 

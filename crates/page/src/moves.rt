@@ -8,6 +8,7 @@ ghost use Rattle.refusals.specs.Refusals.{_gives_, firstOf};
 ghost use Rattle.states.specs.States.{State, numberOf, numberBy, goesBy};
 ghost use Rattle.page.specs.Page.{pageOf, wordsFor, strange, onWords};
 ghost use Rattle.page.specs.Moves.{changesOf, writable, moveTests, stored, emptied, restamped, movedBy};
+use crate::Clock;
 use crate::PageWords;
 use crate::queries;
 use records::Record;
@@ -73,13 +74,13 @@ fn leave_code(able: bool, tracked: bool) -> u64
 }
 
 // The first of its tests that holds.
-pub fn move_code(m: Move, w: PageWords, tlb: u64) -> u64
-    ensures { λ r. ⌜ r ≡ firstOf (moveTests m (pageOf w) tlb) ⌝ }
+pub fn move_code(m: Move, w: PageWords, clock: Clock) -> u64
+    ensures { λ r. ⌜ r ≡ firstOf (moveTests m (pageOf w) clock) ⌝ }
 {
     let n = crate::state_of(w);
     let p = records::record_of(w.word);
     let able = goal(m, n) != n;
-    let tracked = queries::is_tracked(p.stamp, tlb);
+    let tracked = queries::is_tracked(p.stamp, clock);
     let writable = is_writable(w);
     match m {
         Move::Write { mark: _ } => enter_code(writable),
@@ -129,25 +130,25 @@ fn restamp(w: PageWords, to: u8, stamp: u64) -> PageWords
     PageWords { word, mark: w.mark }
 }
 
-fn moved(m: Move, w: PageWords, to: u8, tlb: u64) -> PageWords
-    ensures { λ r. ⌜ (strange (pageOf w) ≡ false → to ≡ numberOf (goesBy (changesOf m) (pageOf w .state)) → r ≡ wordsFor (movedBy m tlb (pageOf w))) ⌝ }
+fn moved(m: Move, w: PageWords, to: u8, clock: Clock) -> PageWords
+    ensures { λ r. ⌜ (strange (pageOf w) ≡ false → to ≡ numberOf (goesBy (changesOf m) (pageOf w .state)) → r ≡ wordsFor (movedBy m clock (pageOf w))) ⌝ }
 {
     match m {
         Move::Write { mark } => store(w, mark),
         Move::Add => empty(w, to),
         Move::Accept => empty(w, to),
-        Move::Block => restamp(w, to, tlb),
+        Move::Block => restamp(w, to, clock.tlb),
         Move::Unblock => restamp(w, to, 0),
         Move::Remove => empty(w, to),
     }
 }
 
 // The page's two words once the call is done.
-pub fn move_words(m: Move, w: PageWords, tlb: u64) -> PageWords
-    ensures { λ r. ⌜ r ≡ onWords (movedBy m tlb) w ⌝ }
+pub fn move_words(m: Move, w: PageWords, clock: Clock) -> PageWords
+    ensures { λ r. ⌜ r ≡ onWords (movedBy m clock) w ⌝ }
 {
     let n = crate::state_of(w);
-    let after = moved(m, w, goal(m, n), tlb);
+    let after = moved(m, w, goal(m, n), clock);
     if states::is_strange(n) {
         return w;
     }

@@ -37,7 +37,7 @@ module _ (n : ℕ) (scan : Scan) (i put : ℕ) (part list : List ℕ) (w : PageW
   scan-stops e = rw (more n i inside, ← loaded, ← shut, ← found, ← coded, ne-eqb _ _ e)
 
   -- without one it goes on to the next page
-  pub scan-visits : code ≡ 0 → scanRun (n - i) scan i put part list ≡ scanRun (n - (i + 1)) scan (i + 1) (cond l (put + 1) put) (cond l (putAt part i (onWords (listedPage (scan .tlb)) w)) part) (cond l (set list put (listedWord (pageOf w .state) (scan .first + i))) list)
+  pub scan-visits : code ≡ 0 → scanRun (n - i) scan i put part list ≡ scanRun (n - (i + 1)) scan (i + 1) (cond l (put + 1) put) (cond l (putAt part i (onWords (listedPage (scan .clock)) w)) part) (cond l (set list put (listedWord (pageOf w .state) (scan .first + i))) list)
   unfolding scanRun lookOf
   scan-visits e = rw (more n i inside, ← loaded, ← shut, ← found, ← coded, eq-eqb _ _ e)
 
@@ -84,17 +84,17 @@ unfolding dscanCode withinTable
 dscan-fits s len room first count e =
     let o = gate-open s len (Live ∷ []) (dscanTests s room first count) refl e in
     let f = formed-means s len (o .formed) in
-    let w = not-false (withinTable first count (s .pages)) (o .passed .0) in
-    let inside : first + count ≤ s .pages = leb-true _ _ (and-right (leb 1 count) (leb (first + count) (s .pages)) w) in
-    let ours : len / 2 ≡ s .pages = f .ours in
+    let w = not-false (withinTable first count (s .fixed .pages)) (o .passed .0) in
+    let inside : first + count ≤ s .fixed .pages = leb-true _ _ (and-right (leb 1 count) (leb (first + count) (s .fixed .pages)) w) in
+    let ours : len / 2 ≡ s .fixed .pages = f .ours in
     (omega arith, f .most)
 
 -- and those from the session's place to the end, in a DCHECK that is not refused
-pub dcheck-fits : (s : Session) (len room : ℕ) → dcheckCode s len room ≡ 0 → (s .check .place ≤ s .pages) × Fits len (s .check .place) (s .pages - s .check .place)
+pub dcheck-fits : (s : Session) (len room : ℕ) → dcheckCode s len room ≡ 0 → (s .check .place ≤ s .fixed .pages) × Fits len (s .check .place) (s .fixed .pages - s .check .place)
 unfolding dcheckCode
 dcheck-fits s len room e =
     let o = gate-open s len (Blackout ∷ []) (dcheckTests s room) refl e in
     let f = formed-means s len (o .formed) in
-    let place : s .check .place ≤ s .pages = f .place in
-    let ours : len / 2 ≡ s .pages = f .ours in
+    let place : s .check .place ≤ s .fixed .pages = f .place in
+    let ours : len / 2 ≡ s .fixed .pages = f .ours in
     (place, (omega arith, f .most))

@@ -8,6 +8,7 @@ ghost use Rattle.table.specs.Table.{mostPages, putAt};
 ghost use Rattle.scan.specs.Look.{listedWord, listedPage};
 ghost use Rattle.scan.specs.Scan.{stopCode, endCode, scanRun, rangeRun, answerOf, refusedAnswer, checkedBy};
 ghost use Rattle.scan.specs.Scan.{withinTable, dscanCode, dscanOut, dcheckCode, dcheckOut};
+use page::Clock;
 use page::PageWords;
 use page::queries;
 use session::Check;
@@ -24,7 +25,7 @@ pub struct Scan {
     // The number of its first page.
     pub first: usize,
     pub budget: usize,
-    pub tlb: u64,
+    pub clock: Clock,
     // It is a DCHECK, which a blocked page ends.
     pub checking: bool,
 }
@@ -86,15 +87,15 @@ fn visit(
     w: PageWords,
     listed: bool,
     number: usize,
-    tlb: u64,
+    clock: Clock,
 ) -> usize
     requires { ⌜ (listed ≡ true → put < length (now list)) ⌝ }
     ensures { λ r. ⌜ r ≡ cond listed (put + 1) put ⌝ }
-    ensures { λ _. ⌜ now (part .exit) ≡ cond listed (putAt (now (part .entry)) i (onWords (listedPage tlb) w)) (now (part .entry)) ⌝ }
+    ensures { λ _. ⌜ now (part .exit) ≡ cond listed (putAt (now (part .entry)) i (onWords (listedPage clock) w)) (now (part .entry)) ⌝ }
     ensures { λ _. ⌜ now (list .exit) ≡ cond listed (set (now (list .entry)) put (listedWord (pageOf w .state) number)) (now (list .entry)) ⌝ }
 {
     if listed {
-        let after = looks::listed_words(w, tlb);
+        let after = looks::listed_words(w, clock);
         let word = looks::listed_word(w, number);
         table::store(part, i, after);
         list[put] = word;
@@ -125,7 +126,16 @@ fn scan_part(part: &mut [u64], list: &mut [u64], scan: Scan) -> Scanned
                 put,
             };
         }
-        put = visit(part, list, i, put, words, listed, scan.first + i, scan.tlb);
+        put = visit(
+            part,
+            list,
+            i,
+            put,
+            words,
+            listed,
+            scan.first + i,
+            scan.clock,
+        );
         i = i + 1;
     }
     let code = end_code(scan.checking);
@@ -201,7 +211,7 @@ fn dscan_code(s: Session, len: usize, room: usize, first: usize, count: usize) -
     ensures { λ r. ⌜ r ≡ dscanCode s len room first count ⌝ }
 {
     let gate = session::gate(s, len, When::Live);
-    let within = is_within(first, count, s.pages);
+    let within = is_within(first, count, s.fixed.pages);
     let long = streams::MOST_ENTRIES < room;
     if gate != codes::DONE {
         return gate;
@@ -228,6 +238,7 @@ pub fn dscan(
     ensures { λ _. ⌜ now (table .exit) ≡ dscanOut s (now (table .entry)) (now (list .entry)) first count budget .table ⌝ }
     ensures { λ _. ⌜ now (list .exit) ≡ dscanOut s (now (table .entry)) (now (list .entry)) first count budget .list ⌝ }
 {
+    let clock = s.clock;
     let code = dscan_code(s, table.len(), list.len(), first, count);
     if code != codes::DONE {
         return refuse(code, s);
@@ -239,7 +250,7 @@ pub fn dscan(
         Scan {
             first,
             budget,
-            tlb: s.tlb,
+            clock,
             checking: false,
         },
     );
@@ -287,6 +298,7 @@ pub fn dcheck(s: Session, table: &mut [u64], list: &mut [u64], budget: usize) ->
     ensures { λ _. ⌜ now (table .exit) ≡ dcheckOut s (now (table .entry)) (now (list .entry)) budget .table ⌝ }
     ensures { λ _. ⌜ now (list .exit) ≡ dcheckOut s (now (table .entry)) (now (list .entry)) budget .list ⌝ }
 {
+    let clock = s.clock;
     let code = dcheck_code(s, table.len(), list.len());
     if code != codes::DONE {
         return refuse(code, s);
@@ -295,11 +307,11 @@ pub fn dcheck(s: Session, table: &mut [u64], list: &mut [u64], budget: usize) ->
     let got = scan_range(
         table,
         list,
-        s.pages - place,
+        s.fixed.pages - place,
         Scan {
             first: place,
             budget,
-            tlb: s.tlb,
+            clock,
             checking: true,
         },
     );

@@ -1,7 +1,9 @@
 // The host's hand on what is the host's to keep: the session, in which it sets any field to any value, and how many words of each space it lends.
 use crate::lines::Line;
 use crate::names;
+use page::Clock;
 use session::Check;
+use session::Fixed;
 use session::Phase;
 use session::Session;
 use session::streams;
@@ -17,10 +19,12 @@ pub(crate) fn zeros() -> Session {
     let streams = streams::at_rest();
     Session {
         phase: Phase::Idle,
-        pages: 0,
-        tlb: 0,
         epoch: 0,
-        created: 0,
+        fixed: Fixed {
+            pages: 0,
+            created: 0,
+        },
+        clock: Clock { tlb: 0 },
         check,
         streams,
     }
@@ -44,10 +48,10 @@ pub(crate) fn changed(s: Session, l: Line) -> Session {
     let mut next = s;
     match name {
         names::PHASE => return session::with_phase(s, phase_of(v)),
-        names::PAGES => next.pages = v as usize,
-        names::TLB => next.tlb = v,
+        names::PAGES => next.fixed.pages = v as usize,
+        names::TLB => next.clock.tlb = v,
         names::EPOCH => next.epoch = v,
-        names::CREATED => next.created = v,
+        names::CREATED => next.fixed.created = v,
         names::PLACE => next.check.place = v as usize,
         names::COMPLETE => next.check.complete = on,
         names::FAILED => next.check.failed = on,

@@ -113,10 +113,10 @@ fn check(c: Check) {
 fn session(s: Session) {
     let phase = s.phase;
     number(b" phase ", number_of(phase));
-    number(b" pages ", s.pages as u64);
-    number(b" tlb ", s.tlb);
+    number(b" pages ", s.fixed.pages as u64);
+    number(b" tlb ", s.clock.tlb);
     number(b" epoch ", s.epoch);
-    number(b" created ", s.created);
+    number(b" created ", s.fixed.created);
     let c = s.check;
     check(c);
     streams(s);

@@ -78,13 +78,13 @@ unfolding formed
 formed-from s len = ap not (from-some false (malformedCases s len))
 
 module _ (f : ℕ → Bool) where
-  none-below : (n : ℕ) → someBelow f n ≡ false → (k : ℕ) → k < n → f k ≡ false
+  pub none-below : (n : ℕ) → someBelow f n ≡ false → (k : ℕ) → k < n → f k ≡ false
   none-below zero e k h = absurd (omega arith)
   none-below (suc n) e k h =
       let r = neither (someBelow f n) (f n) e in
       ⊎-elim (λ q. rw q (r .1)) (λ l. none-below n (r .0) k l) (eq-or-lt-of-le (le-of-suc-le-suc h))
 
-  below-none : (n : ℕ) → ((k : ℕ) → k < n → f k ≡ false) → someBelow f n ≡ false
+  pub below-none : (n : ℕ) → ((k : ℕ) → k < n → f k ≡ false) → someBelow f n ≡ false
   below-none zero h = refl
   below-none (suc n) h = rw (below-none n (λ k l. h k (omega arith)), h n (omega arith))
 
@@ -141,23 +141,23 @@ WorkFormed moves created i (Interrupted next last errors filled) = Interrupts mo
 
 -- of every stream of a session
 abbrev pub Streaming : Session → Type 0
-Streaming s = (i : ℕ) → i < streamPlaces → WorkFormed (among moving (s .phase)) (s .created) i (workAt s i)
+Streaming s = (i : ℕ) → i < streamPlaces → WorkFormed (among moving (s .phase)) (s .fixed .created) i (workAt s i)
 
 pub record Formed (s : Session) (len : ℕ) : Type 0 where
   -- the table: not odd, not 0, not above 8,192, and the session's
   pub even : len % 2 ≡ 0
   pub some : len ≡ 0 → ⊥
   pub most : len ≤ 2 * mostPages
-  pub ours : len / 2 ≡ s .pages
+  pub ours : len / 2 ≡ s .fixed .pages
   -- the ranges
-  pub pages : Within 1 mostPages (s .pages)
-  pub tlb : Within 1 lastEpoch (s .tlb)
+  pub pages : Within 1 mostPages (s .fixed .pages)
+  pub tlb : Within 1 lastEpoch (s .clock .tlb)
   pub idle : s .phase ≡ Idle → s .epoch ≡ 0
   pub begun : (s .phase ≡ Idle → ⊥) → Within 1 lastEpoch (s .epoch)
-  pub created : Within fewestCreated mostCreated (s .created)
+  pub created : Within fewestCreated mostCreated (s .fixed .created)
   -- the check
-  pub place : s .check .place ≤ s .pages
-  pub complete : s .check .complete ≡ true → s .check .place ≡ s .pages
+  pub place : s .check .place ≤ s .fixed .pages
+  pub complete : s .check .complete ≡ true → s .check .place ≡ s .fixed .pages
   pub apart : s .check .complete ≡ true → s .check .failed ≡ false
   -- the streams
   pub streams : Streaming s
@@ -182,14 +182,14 @@ formed-means s len e =
       even = eqb-true _ _ (length .0);
       some = eqb-false _ _ (not-true (eqb len 0) (length .1 .0));
       most = leb-true _ _ (length .1 .1 .0);
-      ours = eqb-true _ _ (not-false (eqb (len / 2) (s .pages)) (h .1 .0));
+      ours = eqb-true _ _ (not-false (eqb (len / 2) (s .fixed .pages)) (h .1 .0));
       pages = within-means _ _ _ (ranges .0);
       tlb = within-means _ _ _ (ranges .1 .0);
       idle = λ q. eqb-true _ _ (ap (λ (p : Phase). epochIn p (s .epoch)) (sym q) ∙ epoch);
       begun = λ n. within-means _ _ _ (ap not (rw (not-so (among (Idle ∷ []) (s .phase)) (λ y. n (idle-is (s .phase) y))) at epoch));
       created = within-means _ _ _ (ranges .1 .1 .1 .0);
       place = ltb-false _ _ (check .0);
-      complete = λ q. eqb-true _ _ (not-false (eqb (s .check .place) (s .pages)) (other (s .check .complete) (not (eqb (s .check .place) (s .pages))) (check .1 .0) q));
+      complete = λ q. eqb-true _ _ (not-false (eqb (s .check .place) (s .fixed .pages)) (other (s .check .complete) (not (eqb (s .check .place) (s .fixed .pages))) (check .1 .0) q));
       apart = other (s .check .complete) (s .check .failed) (check .1 .1 .0);
       streams = λ i l.
           run i (workAt s i) (λ q. busy-means s q i l) (none-below (outOfRange s) streamPlaces runs i l)
@@ -202,7 +202,7 @@ formed-means s len e =
         not (workInRange r) ≡ false →
         (not (workResting r) && not (usable s i)) ≡ false →
         (busy s && not (among moving (s .phase))) ≡ false →
-        WorkFormed (among moving (s .phase)) (s .created) i r
+        WorkFormed (among moving (s .phase)) (s .fixed .created) i r
     run i AtRest rest range able moves = tt
     run i (Interrupted next last errors filled) rest range able moves =
         let h = every-hold (leb next last ∷ leb last lastEntry ∷ leb errors next ∷ leb filled next ∷ []) (not-false (workInRange (Interrupted next last errors filled)) range) in
@@ -217,7 +217,7 @@ formed-means s len e =
         }
 
 -- a record holds both epochs
-pub tlb-fits : (s : Session) (len : ℕ) → formed s len ≡ true → s .tlb < 2 ^ 16
+pub tlb-fits : (s : Session) (len : ℕ) → formed s len ≡ true → s .clock .tlb < 2 ^ 16
 tlb-fits s len f = omega (arith, formed-means s len f .tlb .high)
 
 pub epoch-fits : (s : Session) (len : ℕ) → formed s len ≡ true → among moving (s .phase) ≡ true → s .epoch < 2 ^ 16
@@ -238,7 +238,7 @@ means-formed s len f =
       means-within _ _ _ (f .created),
       below-none (outOfRange s) streamPlaces (λ i h. in-range i (workAt s i) (f .streams i h)),
       le-ltb _ _ (f .place),
-      not-both (s .check .complete) (not (eqb (s .check .place) (s .pages))) (λ q. ap not (eq-eqb _ _ (f .complete q))),
+      not-both (s .check .complete) (not (eqb (s .check .place) (s .fixed .pages))) (λ q. ap not (eq-eqb _ _ (f .complete q))),
       not-both (s .check .complete) (s .check .failed) (f .apart),
       below-none (outOfPlace s) streamPlaces (λ i h. able i (workAt s i) (f .streams i h)),
       moves (among moving (s .phase)) (f .streams),
@@ -250,18 +250,18 @@ means-formed s len f =
         (λ q. eq-eqb _ _ (f .idle (idle-is (s .phase) q)))
         (λ q. means-within _ _ _ (f .begun (λ p. true≢false (sym (ap (among (Idle ∷ [])) p) ∙ q))))
 
-    in-range : (i : ℕ) (r : Work) → WorkFormed (among moving (s .phase)) (s .created) i r → not (workInRange r) ≡ false
+    in-range : (i : ℕ) (r : Work) → WorkFormed (among moving (s .phase)) (s .fixed .created) i r → not (workInRange r) ≡ false
     in-range i AtRest w = refl
     in-range i (Interrupted next last errors filled) w = rw (le-leb _ _ (w .ordered), le-leb _ _ (w .short), le-leb _ _ (w .few-errors), le-leb _ _ (w .few-filled))
 
-    able : (i : ℕ) (r : Work) → WorkFormed (among moving (s .phase)) (s .created) i r → (not (workResting r) && not (usable s i)) ≡ false
+    able : (i : ℕ) (r : Work) → WorkFormed (among moving (s .phase)) (s .fixed .created) i r → (not (workResting r) && not (usable s i)) ≡ false
     able i AtRest w = refl
     able i (Interrupted next last errors filled) w = ap not (lt-ltb _ _ (w .usable))
 
-    rests : (i : ℕ) (r : Work) → WorkFormed false (s .created) i r → workResting r ≡ true
+    rests : (i : ℕ) (r : Work) → WorkFormed false (s .fixed .created) i r → workResting r ≡ true
     rests i AtRest w = refl
     rests i (Interrupted next last errors filled) w = absurd (false≢true (w .moving))
 
-    moves : (m : Bool) → ((i : ℕ) → i < streamPlaces → WorkFormed m (s .created) i (workAt s i)) → (busy s && not m) ≡ false
+    moves : (m : Bool) → ((i : ℕ) → i < streamPlaces → WorkFormed m (s .fixed .created) i (workAt s i)) → (busy s && not m) ≡ false
     moves true w = not-both (busy s) false (λ q. refl)
     moves false w = rw (means-busy s (λ i h. rests i (workAt s i) (w i h)))

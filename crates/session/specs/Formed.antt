@@ -50,7 +50,7 @@ workInRange (Interrupted next last errors filled) = leb next last && leb last la
 
 -- index below N−1 is usable
 abbrev pub usable : Session → ℕ → Bool
-usable s i = ltb (i + 1) (s .created)
+usable s i = ltb (i + 1) (s .fixed .created)
 
 -- f holds at some number below n
 abbrev pub someBelow : (ℕ → Bool) → ℕ → Bool
@@ -84,16 +84,16 @@ abbrev pub malformedCases : Session → ℕ → List Bool
 malformedCases s len =
     -- table length odd, 0, above 8,192 or not the session's
     not (legal len)
-    ∷ not (eqb (len / 2) (s .pages))
+    ∷ not (eqb (len / 2) (s .fixed .pages))
     -- a field outside its range
-    ∷ not (within 1 mostPages (s .pages))
-    ∷ not (within 1 lastEpoch (s .tlb))
+    ∷ not (within 1 mostPages (s .fixed .pages))
+    ∷ not (within 1 lastEpoch (s .clock .tlb))
     ∷ not (epochIn (s .phase) (s .epoch))
-    ∷ not (within fewestCreated mostCreated (s .created))
+    ∷ not (within fewestCreated mostCreated (s .fixed .created))
     ∷ someStream (outOfRange s)
     -- a check place above the page count, complete at another place than the count, complete and failed at once
-    ∷ ltb (s .pages) (s .check .place)
-    ∷ (s .check .complete && not (eqb (s .check .place) (s .pages)))
+    ∷ ltb (s .fixed .pages) (s .check .place)
+    ∷ (s .check .complete && not (eqb (s .check .place) (s .fixed .pages)))
     ∷ (s .check .complete && s .check .failed)
     -- an interrupted stream that is unusable or in Idle or Done
     ∷ someStream (outOfPlace s)

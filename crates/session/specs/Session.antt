@@ -1,9 +1,10 @@
 -- The session: what New makes, and sessions made from others.
 use mathlib.Core.Bool.{Bool, false, cond, _||_}
 use mathlib.Core.List.{List, [], _∷_}
-use Prim.Native.Nat.{ℕ}
+use Prim.Native.Nat.{ℕ, _+_}
 use lib.Dec.{eqb, ltb}
 use lib.ListN.{getD, set, replicate}
+use Rattle.page.specs.declared.Clock.{Clock}
 use Rattle.session.specs.declared.Phase.{Phase}
 use Rattle.session.specs.declared.Phase.the-variants.{Idle, Live, Blackout, Done}
 use Rattle.session.specs.declared.Check.{Check}
@@ -64,29 +65,35 @@ atRest = replicate streamPlaces resting
 -- New: Idle, TLB epoch 1, migration epoch 0, check at page 0, neither complete nor failed, streams at rest
 abbrev pub newSession : ℕ → ℕ → Session
 newSession pages created =
-    record { phase = Idle; pages = pages; tlb = 1; epoch = 0; created = created; check = unchecked; streams = atRest }
+    record { phase = Idle; epoch = 0; fixed = record { pages = pages; created = created }; clock = record { tlb = 1 }; check = unchecked; streams = atRest }
+
+-- track: TLB epoch plus one
+abbrev pub ticked : Clock → Clock
+ticked clock = record { tlb = clock .tlb + 1 }
+
+-- what is constant since New stays
+abbrev pub remade : Session → Phase → ℕ → Clock → Check → List Stream → Session
+remade s phase epoch clock check streams = record { phase = phase; epoch = epoch; fixed = s .fixed; clock = clock; check = check; streams = streams }
 
 -- start and abort: check reset, streams at rest
 abbrev pub begun : Session → Phase → ℕ → Session
-begun s phase epoch =
-    record { phase = phase; pages = s .pages; tlb = s .tlb; epoch = epoch; created = s .created; check = unchecked; streams = atRest }
+begun s phase epoch = remade s phase epoch (s .clock) unchecked atRest
 
 -- a session with another value in one place, and the rest as it was
 abbrev pub withPhase : Session → Phase → Session
-withPhase s phase =
-    record { phase = phase; pages = s .pages; tlb = s .tlb; epoch = s .epoch; created = s .created; check = s .check; streams = s .streams }
-
-abbrev pub withTlb : Session → ℕ → Session
-withTlb s tlb =
-    record { phase = s .phase; pages = s .pages; tlb = tlb; epoch = s .epoch; created = s .created; check = s .check; streams = s .streams }
+withPhase s phase = remade s phase (s .epoch) (s .clock) (s .check) (s .streams)
 
 abbrev pub withEpoch : Session → ℕ → Session
-withEpoch s epoch =
-    record { phase = s .phase; pages = s .pages; tlb = s .tlb; epoch = epoch; created = s .created; check = s .check; streams = s .streams }
+withEpoch s epoch = remade s (s .phase) epoch (s .clock) (s .check) (s .streams)
+
+abbrev pub withClock : Session → Clock → Session
+withClock s clock = remade s (s .phase) (s .epoch) clock (s .check) (s .streams)
 
 abbrev pub withCheck : Session → Check → Session
-withCheck s check =
-    record { phase = s .phase; pages = s .pages; tlb = s .tlb; epoch = s .epoch; created = s .created; check = check; streams = s .streams }
+withCheck s check = remade s (s .phase) (s .epoch) (s .clock) check (s .streams)
+
+abbrev pub withStreams : Session → List Stream → Session
+withStreams s streams = remade s (s .phase) (s .epoch) (s .clock) (s .check) streams
 
 abbrev pub workAt : Session → ℕ → Work
 workAt s i = getD (s .streams) i resting .work
@@ -96,7 +103,4 @@ unfoldable pub workOf : Session → ℕ → Work
 workOf s i = cond (ltb i streamPlaces) (workAt s i) AtRest
 
 unfoldable pub withWork : Session → ℕ → Work → Session
-withWork s i work =
-    cond (ltb i streamPlaces)
-    (record { phase = s .phase; pages = s .pages; tlb = s .tlb; epoch = s .epoch; created = s .created; check = s .check; streams = set (s .streams) i (record { work = work }) })
-    s
+withWork s i work = cond (ltb i streamPlaces) (withStreams s (set (s .streams) i (record { work = work }))) s

@@ -1,7 +1,7 @@
 // The session: what a bench knows beside its table, when it is well-formed, and the gate that every call but New passes first.
 ghost use mathlib.Core.Path.{_≡_};
 ghost use mathlib.Core.List.{[]};
-ghost use Rattle.session.specs.Session.{among, phasesOf, comesIn, unchecked, withPhase, withEpoch, withTlb, withCheck, begun, newSession};
+ghost use Rattle.session.specs.Session.{among, phasesOf, comesIn, unchecked, withPhase, withEpoch, withClock, withCheck, begun, newSession};
 ghost use Rattle.page.specs.Sweeps.{sweptBy};
 ghost use Rattle.session.specs.Outcome.{answeredBy};
 ghost use Rattle.session.specs.Formed.{epochIn, formed, gated, busy};
@@ -10,6 +10,7 @@ pub mod streams;
 
 use crate::streams::STREAM_PLACES;
 use crate::streams::Stream;
+use page::Clock;
 use page::sweeps::Sweep;
 use words::codes;
 
@@ -27,15 +28,19 @@ pub struct Check {
     pub failed: bool,
 }
 
-pub struct Session {
-    pub phase: Phase,
+// What is constant since New.
+pub struct Fixed {
     pub pages: usize,
-    // The TLB epoch.
-    pub tlb: u64,
-    // The migration epoch.
-    pub epoch: u64,
     // How many streams were created, N; an index below N−1 is usable (000, 3.1.3.1).
     pub created: u64,
+}
+
+// Phase and migration epoch, and parts of which a call changes one or two.
+pub struct Session {
+    pub phase: Phase,
+    pub epoch: u64,
+    pub fixed: Fixed,
+    pub clock: Clock,
     pub check: Check,
     pub streams: [Stream; STREAM_PLACES],
 }
@@ -113,9 +118,9 @@ pub fn is_formed(s: Session, len: usize) -> bool
     ensures { λ r. ⌜ r ≡ formed s len ⌝ }
 {
     let p = s.phase;
-    let pages = s.pages;
-    let tlb = s.tlb;
-    let created = s.created;
+    let pages = s.fixed.pages;
+    let tlb = s.clock.tlb;
+    let created = s.fixed.created;
     let place = s.check.place;
     let complete = s.check.complete;
     let failed = s.check.failed;
@@ -204,10 +209,9 @@ pub fn new_session(pages: usize, created: u64) -> Session
     let streams = streams::at_rest();
     Session {
         phase: Phase::Idle,
-        pages,
-        tlb: 1,
         epoch: 0,
-        created,
+        fixed: Fixed { pages, created },
+        clock: Clock { tlb: 1 },
         check,
         streams,
     }
@@ -217,14 +221,15 @@ pub fn new_session(pages: usize, created: u64) -> Session
 pub fn begin(s: Session, phase: Phase, epoch: u64) -> Session
     ensures { λ r. ⌜ r ≡ begun s phase epoch ⌝ }
 {
+    let fixed = s.fixed;
+    let clock = s.clock;
     let check = no_check();
     let streams = streams::at_rest();
     Session {
         phase,
-        pages: s.pages,
-        tlb: s.tlb,
         epoch,
-        created: s.created,
+        fixed,
+        clock,
         check,
         streams,
     }
@@ -233,24 +238,25 @@ pub fn begin(s: Session, phase: Phase, epoch: u64) -> Session
 pub fn with_phase(s: Session, phase: Phase) -> Session
     ensures { λ r. ⌜ r ≡ withPhase s phase ⌝ }
 {
+    let fixed = s.fixed;
+    let clock = s.clock;
     let check = s.check;
     let streams = s.streams;
     Session {
         phase,
-        pages: s.pages,
-        tlb: s.tlb,
         epoch: s.epoch,
-        created: s.created,
+        fixed,
+        clock,
         check,
         streams,
     }
 }
 
-pub fn with_tlb(s: Session, tlb: u64) -> Session
-    ensures { λ r. ⌜ r ≡ withTlb s tlb ⌝ }
+pub fn with_clock(s: Session, clock: Clock) -> Session
+    ensures { λ r. ⌜ r ≡ withClock s clock ⌝ }
 {
     let mut next = s;
-    next.tlb = tlb;
+    next.clock = clock;
     next
 }
 

@@ -61,10 +61,10 @@ pub fn with_work(s: Session, at: u64, work: Work) -> Session
 pub fn is_usable(s: Session, at: u64) -> bool
     ensures { λ r. ⌜ r ≡ usable s at ⌝ }
 {
-    if s.created <= at {
+    if s.fixed.created <= at {
         return false;
     }
-    at + 1 < s.created
+    at + 1 < s.fixed.created
 }
 
 // Whether a stream is at rest.

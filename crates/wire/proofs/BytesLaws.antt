@@ -18,17 +18,18 @@ use Rattle.wire.specs.Tables.{putPage}
 
 -- ---- lists by index
 
-up-length : (f : ℕ → ℕ) (n : ℕ) → length (upTo f n) ≡ n
-up-length f zero = refl
-up-length f (suc n) = simp (length-append, up-length f n) (add-one n)
+module _ {A : Type 0} (f : ℕ → A) where
+  pub up-length : (n : ℕ) → length (upTo f n) ≡ n
+  up-length zero = refl
+  up-length (suc n) = simp (length-append, up-length n) (add-one n)
 
-up-at : (f : ℕ → ℕ) (n i : ℕ) → i < n → getD (upTo f n) i 0 ≡ f i
-up-at f zero i h = absurd (omega arith)
-up-at f (suc n) i h =
-    ⊎-elim
-    (λ e. rw e (getD-at (upTo f n) (f n) [] 0 n (up-length f n)))
-    (λ l. List·getD-append (upTo f n) (f n ∷ []) 0 i (rw (up-length f n) l) ∙ up-at f n i l)
-    (eq-or-lt-of-le (le-of-suc-le-suc h))
+  pub up-at : (d : A) (n i : ℕ) → i < n → getD (upTo f n) i d ≡ f i
+  up-at d zero i h = absurd (omega arith)
+  up-at d (suc n) i h =
+      ⊎-elim
+      (λ e. rw e (getD-at (upTo f n) (f n) [] d n (up-length n)))
+      (λ l. List·getD-append (upTo f n) (f n ∷ []) d i (rw (up-length n) l) ∙ up-at d n i l)
+      (eq-or-lt-of-le (le-of-suc-le-suc h))
 
 pub words-length : (b : List ℕ) → length (wordsOf b) ≡ length b / 8
 unfolding wordsOf
@@ -36,7 +37,7 @@ words-length b = up-length (λ i. wordAt b (8 * i)) (length b / 8)
 
 pub words-at : (b : List ℕ) (i : ℕ) → i < length b / 8 → getD (wordsOf b) i 0 ≡ wordAt b (8 * i)
 unfolding wordsOf
-words-at b i h = up-at (λ j. wordAt b (8 * j)) (length b / 8) i h
+words-at b i h = up-at (λ j. wordAt b (8 * j)) 0 (length b / 8) i h
 
 pub bytes-length : (w : List ℕ) → length (bytesOf w) ≡ 8 * length w
 bytes-length [] = refl

@@ -28,7 +28,7 @@ unfoldable pub putWord : List ℕ → ℕ → ℕ → List ℕ
 putWord b at x = sets b at (wordBytes x)
 
 -- f at 0, 1, .. below n
-abbrev pub upTo : (ℕ → ℕ) → ℕ → List ℕ
+abbrev pub upTo : {A : Type 0} → (ℕ → A) → ℕ → List A
 upTo f zero = []
 upTo f (suc n) = upTo f n ++ (f n ∷ [])
 

@@ -1,4 +1,4 @@
 pub mod Bytes
-pub mod Promises
 pub mod Sessions
 pub mod Tables
+pub mod Promises

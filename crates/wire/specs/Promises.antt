@@ -16,19 +16,19 @@ use Rattle.wire.specs.Sessions.{sessionLength, fits, sessionOf, sessionW
 abbrev pub Word : ℕ → Type 0
 Word x = x < 0x10000000000000000
 
--- the numbers of a run are words
-abbrev pub RunNumbers : Work → Type 0
-RunNumbers AtRest = Unit
-RunNumbers (Interrupted next last errors filled) = Word next × Word last × Word errors × Word filled
+-- the numbers of a stream's work are words
+abbrev pub WorkNumbers : Work → Type 0
+WorkNumbers AtRest = Unit
+WorkNumbers (Interrupted next last errors filled) = Word next × Word last × Word errors × Word filled
 
 -- and all of a session. A session that is a value in the code has eight places for streams, and its numbers are words; `formed` bounds them further
 pub record Numbers (s : Session) : Type 0 where
-  pub pages : Word (s .pages)
-  pub tlb : Word (s .tlb)
+  pub pages : Word (s .fixed .pages)
+  pub tlb : Word (s .clock .tlb)
   pub epoch : Word (s .epoch)
-  pub created : Word (s .created)
+  pub created : Word (s .fixed .created)
   pub place : Word (s .check .place)
-  pub runs : (i : ℕ) → RunNumbers (workOf s i)
+  pub works : (i : ℕ) → WorkNumbers (workOf s i)
 
 pub record ReadsBack : Type 0 where
   -- reading the bytes that were written gives the session back

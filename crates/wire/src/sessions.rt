@@ -1,10 +1,14 @@
-// The session as 48 words: eight of its own, then five for each stream.
+// The session as 48 words, part by part: its own numbers, the check, and five words for each stream. Each part is read, tested and written in its place.
 ghost use mathlib.Core.Path.{_≡_};
-ghost use Prim.Native.Nat.{_+_, _≤_};
+ghost use Prim.Native.Nat.{_+_, _*_, _<_, _≤_};
 ghost use lib.ListN.{length};
-ghost use Rattle.session.specs.Session.{phaseNumber};
-ghost use Rattle.wire.specs.Sessions.{phaseOf, bitOf, streamAt, streamFits, streamsFit, workWords, sessionLength, fits, sessionOf, sessionWords};
+ghost use lib.Seq.{sets};
+ghost use Rattle.session.specs.Session.{phaseNumber, streamPlaces};
+ghost use Rattle.wire.specs.Sessions.{sessionLength, phaseOf, ownWords, bitOf, checkFits, checkOf, checkWords};
+ghost use Rattle.wire.specs.Sessions.{streamAt, streamFits, streamsFit, streamsOf, workWords, five, streamsPlace, streamPlace, streamsFrom, fits, sessionOf, sessionWords};
+use page::Clock;
 use session::Check;
+use session::Fixed;
 use session::Phase;
 use session::Session;
 use session::streams;
@@ -15,7 +19,7 @@ use session::streams::Work;
 // How many words a session is.
 pub const SESSION_WORDS: usize = 48;
 
-// ---- reading
+// ---- its own numbers: words 0 to 4
 
 fn phase_of(x: u64) -> Phase
     ensures { λ r. ⌜ r ≡ phaseOf x ⌝ }
@@ -30,6 +34,76 @@ fn phase_of(x: u64) -> Phase
         return Phase::Blackout;
     }
     Phase::Done
+}
+
+fn number_of(p: Phase) -> u64
+    ensures { λ r. ⌜ r ≡ phaseNumber p ⌝ }
+{
+    match p {
+        Phase::Idle => 0,
+        Phase::Live => 1,
+        Phase::Blackout => 2,
+        Phase::Done => 3,
+    }
+}
+
+fn put_own(w: &mut [u64], s: Session)
+    requires { ⌜ length (now w) ≡ sessionLength ⌝ }
+    ensures { λ _. ⌜ now (w .exit) ≡ sets (now (w .entry)) 0 (ownWords s) ⌝ }
+{
+    let p = s.phase;
+    let phase = number_of(p);
+    w[0] = phase;
+    w[1] = s.fixed.pages as u64;
+    w[2] = s.clock.tlb;
+    w[3] = s.epoch;
+    w[4] = s.fixed.created;
+}
+
+// ---- the check: words 5 to 7
+
+fn bit_of(b: bool) -> u64
+    ensures { λ r. ⌜ r ≡ bitOf b ⌝ }
+{
+    if b { 1 } else { 0 }
+}
+
+fn is_check(w: &[u64]) -> bool
+    requires { ⌜ length (now w) ≡ sessionLength ⌝ }
+    ensures { λ r. ⌜ r ≡ checkFits (now (w .entry)) ⌝ }
+{
+    (w[6] <= 1) & (w[7] <= 1)
+}
+
+fn check_of(w: &[u64]) -> Check
+    requires { ⌜ length (now w) ≡ sessionLength ⌝ }
+    ensures { λ r. ⌜ r ≡ checkOf (now (w .entry)) ⌝ }
+{
+    Check {
+        place: w[5] as usize,
+        complete: w[6] == 1,
+        failed: w[7] == 1,
+    }
+}
+
+fn put_check(w: &mut [u64], c: Check)
+    requires { ⌜ length (now w) ≡ sessionLength ⌝ }
+    ensures { λ _. ⌜ now (w .exit) ≡ sets (now (w .entry)) 5 (checkWords c) ⌝ }
+{
+    let complete = bit_of(c.complete);
+    let failed = bit_of(c.failed);
+    w[5] = c.place as u64;
+    w[6] = complete;
+    w[7] = failed;
+}
+
+// ---- the streams: five words each, from word 8 on
+
+fn stream_place(i: usize) -> usize
+    requires { ⌜ i < streamPlaces ⌝ }
+    ensures { λ r. ⌜ r ≡ streamPlace i ⌝ }
+{
+    8 + 5 * i
 }
 
 // The stream whose five words begin at `at`.
@@ -58,86 +132,6 @@ fn is_stream(w: &[u64], at: usize) -> bool
     let flag = w[at];
     let blank = (w[at + 1] == 0) & (w[at + 2] == 0) & (w[at + 3] == 0) & (w[at + 4] == 0);
     (flag == 1) | ((flag == 0) & blank)
-}
-
-fn are_streams(w: &[u64]) -> bool
-    requires { ⌜ length (now w) ≡ sessionLength ⌝ }
-    ensures { λ r. ⌜ r ≡ streamsFit (now (w .entry)) ⌝ }
-{
-    is_stream(w, 8)
-        & is_stream(w, 13)
-        & is_stream(w, 18)
-        & is_stream(w, 23)
-        & is_stream(w, 28)
-        & is_stream(w, 33)
-        & is_stream(w, 38)
-        & is_stream(w, 43)
-}
-
-// The words are in the session's layout: a phase, flags, streams.
-pub fn is_session(w: &[u64]) -> bool
-    requires { ⌜ length (now w) ≡ sessionLength ⌝ }
-    ensures { λ r. ⌜ r ≡ fits (now (w .entry)) ⌝ }
-{
-    let streams = are_streams(w);
-    (w[0] <= 3) & (w[6] <= 1) & (w[7] <= 1) & streams
-}
-
-fn streams_of(w: &[u64]) -> [Stream; STREAM_PLACES]
-    requires { ⌜ length (now w) ≡ sessionLength ⌝ }
-    ensures { λ r. ⌜ r ≡ sessionOf (now (w .entry)) .streams ⌝ }
-{
-    [
-        stream_at(w, 8),
-        stream_at(w, 13),
-        stream_at(w, 18),
-        stream_at(w, 23),
-        stream_at(w, 28),
-        stream_at(w, 33),
-        stream_at(w, 38),
-        stream_at(w, 43),
-    ]
-}
-
-// What words in the layout mean. Any other words give a session too, of which nothing is said.
-pub fn session_of(w: &[u64]) -> Session
-    requires { ⌜ length (now w) ≡ sessionLength ⌝ }
-    ensures { λ r. ⌜ r ≡ sessionOf (now (w .entry)) ⌝ }
-{
-    let phase = phase_of(w[0]);
-    let streams = streams_of(w);
-    Session {
-        phase,
-        pages: w[1] as usize,
-        tlb: w[2],
-        epoch: w[3],
-        created: w[4],
-        check: Check {
-            place: w[5] as usize,
-            complete: w[6] == 1,
-            failed: w[7] == 1,
-        },
-        streams,
-    }
-}
-
-// ---- writing
-
-fn number_of(p: Phase) -> u64
-    ensures { λ r. ⌜ r ≡ phaseNumber p ⌝ }
-{
-    match p {
-        Phase::Idle => 0,
-        Phase::Live => 1,
-        Phase::Blackout => 2,
-        Phase::Done => 3,
-    }
-}
-
-fn bit_of(b: bool) -> u64
-    ensures { λ r. ⌜ r ≡ bitOf b ⌝ }
-{
-    if b { 1 } else { 0 }
 }
 
 // The five words of a stream.
@@ -175,70 +169,96 @@ fn stream_words(work: Work) -> StreamWords
     }
 }
 
-// The words that a session is.
-pub fn words_of(s: Session) -> [u64; SESSION_WORDS]
-    ensures { λ r. ⌜ r ≡ sessionWords s ⌝ }
+fn put_stream(w: &mut [u64], at: usize, work: Work)
+    requires { ⌜ at + 5 ≤ length (now w) ⌝ }
+    ensures { λ _. ⌜ now (w .exit) ≡ sets (now (w .entry)) at (five (workWords work)) ⌝ }
 {
-    let p = s.phase;
-    let phase = number_of(p);
-    let complete = bit_of(s.check.complete);
-    let failed = bit_of(s.check.failed);
-    let a = stream_words(streams::work_of(s, 0));
-    let b = stream_words(streams::work_of(s, 1));
-    let c = stream_words(streams::work_of(s, 2));
-    let d = stream_words(streams::work_of(s, 3));
-    let e = stream_words(streams::work_of(s, 4));
-    let f = stream_words(streams::work_of(s, 5));
-    let g = stream_words(streams::work_of(s, 6));
-    let h = stream_words(streams::work_of(s, 7));
-    [
+    let x = stream_words(work);
+    w[at] = x.flag;
+    w[at + 1] = x.next;
+    w[at + 2] = x.last;
+    w[at + 3] = x.errors;
+    w[at + 4] = x.filled;
+}
+
+fn are_streams(w: &[u64]) -> bool
+    requires { ⌜ length (now w) ≡ sessionLength ⌝ }
+    ensures { λ r. ⌜ r ≡ streamsFit (now (w .entry)) ⌝ }
+{
+    let mut bad = false;
+    let mut i: usize = 0;
+    while i < STREAM_PLACES {
+        let good = is_stream(w, stream_place(i));
+        bad = bad | !good;
+        i = i + 1;
+    }
+    !bad
+}
+
+fn streams_of(w: &[u64]) -> [Stream; STREAM_PLACES]
+    requires { ⌜ length (now w) ≡ sessionLength ⌝ }
+    ensures { λ r. ⌜ r ≡ streamsOf (now (w .entry)) ⌝ }
+{
+    let mut streams = streams::at_rest();
+    let mut i: usize = 0;
+    while i < STREAM_PLACES {
+        streams[i] = stream_at(w, stream_place(i));
+        i = i + 1;
+    }
+    streams
+}
+
+fn put_streams(w: &mut [u64], s: Session)
+    requires { ⌜ length (now w) ≡ sessionLength ⌝ }
+    ensures { λ _. ⌜ now (w .exit) ≡ sets (now (w .entry)) streamsPlace (streamsFrom s streamPlaces 0) ⌝ }
+{
+    let mut i: usize = 0;
+    while i < STREAM_PLACES {
+        let work = streams::work_of(s, i as u64);
+        put_stream(w, stream_place(i), work);
+        i = i + 1;
+    }
+}
+
+// ---- all of it
+
+// The words are in the session's layout.
+pub fn is_session(w: &[u64]) -> bool
+    requires { ⌜ length (now w) ≡ sessionLength ⌝ }
+    ensures { λ r. ⌜ r ≡ fits (now (w .entry)) ⌝ }
+{
+    let check = is_check(w);
+    let streams = are_streams(w);
+    (w[0] <= 3) & check & streams
+}
+
+// What words in the layout mean. Any other words give a session too, of which nothing is said.
+pub fn session_of(w: &[u64]) -> Session
+    requires { ⌜ length (now w) ≡ sessionLength ⌝ }
+    ensures { λ r. ⌜ r ≡ sessionOf (now (w .entry)) ⌝ }
+{
+    let phase = phase_of(w[0]);
+    let check = check_of(w);
+    let streams = streams_of(w);
+    Session {
         phase,
-        s.pages as u64,
-        s.tlb,
-        s.epoch,
-        s.created,
-        s.check.place as u64,
-        complete,
-        failed,
-        a.flag,
-        a.next,
-        a.last,
-        a.errors,
-        a.filled,
-        b.flag,
-        b.next,
-        b.last,
-        b.errors,
-        b.filled,
-        c.flag,
-        c.next,
-        c.last,
-        c.errors,
-        c.filled,
-        d.flag,
-        d.next,
-        d.last,
-        d.errors,
-        d.filled,
-        e.flag,
-        e.next,
-        e.last,
-        e.errors,
-        e.filled,
-        f.flag,
-        f.next,
-        f.last,
-        f.errors,
-        f.filled,
-        g.flag,
-        g.next,
-        g.last,
-        g.errors,
-        g.filled,
-        h.flag,
-        h.next,
-        h.last,
-        h.errors,
-        h.filled,
-    ]
+        epoch: w[3],
+        fixed: Fixed {
+            pages: w[1] as usize,
+            created: w[4],
+        },
+        clock: Clock { tlb: w[2] },
+        check,
+        streams,
+    }
+}
+
+// The words that a session is.
+pub fn put_session(w: &mut [u64], s: Session)
+    requires { ⌜ length (now w) ≡ sessionLength ⌝ }
+    ensures { λ _. ⌜ now (w .exit) ≡ sessionWords s ⌝ }
+{
+    put_own(w, s);
+    put_check(w, s.check);
+    put_streams(w, s);
 }

@@ -15,15 +15,15 @@ returns : tie.Need-returns
 unfolding trackAnswer
 returns c = rw (← c .before .track-code .ensures, ne-eqb _ _ (c .if1 .taken))
 
-add-with-tlb : tie.Need-add-with-tlb
-add-with-tlb c = omega (arith, track-room _ _ (sym (c .before .before .track-code .ensures) ∙ c .before .if1 .left))
+add-tlb : tie.Need-add-tlb
+add-tlb c = omega (arith, track-room _ _ (sym (c .before .before .track-code .ensures) ∙ c .before .if1 .left))
 
-with-tlb-requires : tie.Need-with-tlb-requires
-with-tlb-requires c κs = search needs
+with-clock-requires : tie.Need-with-clock-requires
+with-clock-requires c κs = search needs
 
 returns-2 : tie.Need-returns-2
 unfolding trackAnswer
-returns-2 c = rw (← c .before .before .before .track-code .ensures, eq-eqb _ _ (c .before .before .if1 .left), ← c .with-tlb .ensures)
+returns-2 c = rw (← c .before .before .before .track-code .ensures, eq-eqb _ _ (c .before .before .if1 .left), ← c .with-clock .ensures)
 
 pub track-answer-spec : {M : Type 1} → statement M
-track-answer-spec = tie.close (tie.spec track-code-requires returns add-with-tlb with-tlb-requires returns-2)
+track-answer-spec = tie.close (tie.spec track-code-requires returns add-tlb with-clock-requires returns-2)

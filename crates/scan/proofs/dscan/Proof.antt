@@ -36,7 +36,7 @@ returns-2 c =
     let at-range = c .before .before .before .before .before in
     let at-if1 = at-range .before .before .before in
     let at-code = at-if1 .before in
-    let s = at-code .before .before .before .args .s in
+    let s = at-code .before .before .before .before .args .s in
     rw (← at-code .dscan-code .ensures, eq-eqb _ _ (at-if1 .if1 .left))
     (c .answer .ensures ∙ ap (λ (g : Scanned). answerOf g s) (at-range .scan-range .ensures .0), (at-range .scan-range .ensures .1 .0, at-range .scan-range .ensures .1 .1))
 

@@ -1,9 +1,16 @@
 -- `perform` on the decoded words; session and table are written back unless its code is a refusal, and then they are as they came.
 use borrow.Author.Needs.{needs}
 use Rattle.wire.specs.Bytes.{bytesOf}
-use mathlib.Core.Path.{sym, ap, _∙_}
+use denote.Ref.{now}
+use native.Mathlib.Omega.{arith}
+use mathlib.Core.Path.{_≡_, sym, ap, _∙_}
+use Prim.Native.Nat.{ℕ, _*_, _/_, _%_}
+use lib.ListN.{length}
 use Rattle.chirpsteeple.proofs.plays.play.Statement.{statement}
 use Rattle.chirpsteeple.proofs.plays.play.Tie as tie
+
+eights : (n : ℕ) → n % 8 ≡ 0 → n ≡ 8 * (n / 8)
+eights n e = omega arith
 
 decode-requires : tie.Need-decode-requires
 decode-requires c κs = search needs
@@ -37,7 +44,11 @@ put-session-requires : tie.Need-put-session-requires
 put-session-requires c κs = search needs
 
 encode-requires : tie.Need-encode-requires
-encode-requires c κs = search needs
+encode-requires c κs =
+    let at-perform = c .before .before .before .before .before .before .before .before .before .before .before .before .before .before .before in
+    let at-decode = at-perform .before .before .before .before .before .before in
+    let start = at-decode .before .before .before .before .before .before .before .before in
+    eights (length (now (start .args .table))) (start .pre .1) ∙ ap (λ (n : ℕ). 8 * n) (sym (at-perform .perform .kept .1 .1 .0 ∙ at-decode .decode .kept .1 .0 ∙ start .pre .2))
 
 same-length-5 : tie.Need-same-length-5
 same-length-5 c = search needs

@@ -35,9 +35,9 @@ returns c =
     let z = goesBy looks (p .state) in
     λ e q.
     let renews : isIn z renewedStates ≡ true = sym (c .before .before .before .is-renewed .ensures ∙ ap (λ (x : State). isIn x renewedStates) (ap stateOf q ∙ state-number z)) ∙ c .before .before .if1 .taken in
-    let stamp = low 16 (c .before .before .before .before .before .args .tlb) in
+    let stamp = low 16 (c .before .before .before .before .before .args .clock .tlb) in
     rw renews
-    (words-set (λ (r : Record). withStamp (withDirty (withState r (numberOf z)) false) stamp) w _ (record { state = z; dirty = false; cached = p .cached; stamp = c .before .before .before .before .before .args .tlb; migrated = p .migrated; mark = p .mark }) (search needs) e
+    (words-set (λ (r : Record). withStamp (withDirty (withState r (numberOf z)) false) stamp) w _ (record { state = z; dirty = false; cached = p .cached; stamp = c .before .before .before .before .before .args .clock .tlb; migrated = p .migrated; mark = p .mark }) (search needs) e
     (c .set-stamp .ensures ∙ ap (λ (r : Record). withStamp r stamp) (c .before .set-dirty .ensures ∙ ap (λ (r : Record). withDirty r false) (c .before .before .before .before .set-state .ensures ∙ ap (withState (recordOf (w .word))) q)))
     (ap (λ (r : Record). withStamp r stamp) (sym (lowered-fits (record { state = z; dirty = false; cached = p .cached; stamp = 0; migrated = p .migrated; mark = 0 }) (lit< tt) (read-held w e .migrated)))))
 
