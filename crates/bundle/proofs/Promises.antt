@@ -1,10 +1,10 @@
--- One entry computes; of many, a page's latest entry is what the log says of it, in no order.
-use mathlib.Core.Path.{_≡_, refl, sym, ap, _∙_}
+-- One entry computes, and so does what it finds; of many, a page's latest entry is what the log says of it, in no order.
+use mathlib.Core.Path.{_≡_, refl, sym, ap, subst, _∙_}
 use mathlib.Core.Logic.{_⊎_, inl, inr}
 use mathlib.Core.List.{List, [], _∷_, List·Memᴰ, List·Memᴰ·not-nil, List·Memᴰ·cases-cons}
 use borrow.Author.Tests.{eq-eqb, ne-eqb}
-use Rattle.bundle.specs.Bundle.{absent, holds, Operation, migrate, cancel, remigrate, Sent, made, madeBy, Once}
-use Rattle.bundle.specs.Promises.{Receives, LastDecides}
+use Rattle.bundle.specs.Bundle.{Holding, absent, holds, Operation, migrate, cancel, remigrate, Sent, made, madeBy, Once, Present, Fits}
+use Rattle.bundle.specs.Promises.{Receives, LastDecides, FitsOnly}
 use Rattle.bundle.proofs.Replay.{none-past, replay-past, perm-reordered}
 
 made-present : (o : Operation) (pending contents : _) → (o ≡ cancel → ⊥) → made o pending contents ≡ holds pending contents
@@ -40,3 +40,12 @@ last-decides =
           (perm-reordered (r .same) (r .rising));
       none = λ log l r i n. replay-past i 0 absent log l (none-past i log n) (perm-reordered (r .same) (r .rising));
     }
+
+-- an absent page is not present
+fits-again : (o : Operation) (h : Holding) → (o ≡ migrate → ⊥) → Fits o h → h ≡ absent → ⊥
+fits-again migrate h n f e = n refl
+fits-again cancel h n f e = subst Present e f
+fits-again remigrate h n f e = subst Present e f
+
+pub fits-only : FitsOnly
+fits-only = record { first = λ h f. f; again = fits-again }
