@@ -25,18 +25,14 @@ use Rattle.scan.specs.Scan.{dcheckOut}
 use Rattle.calls.specs.declared.Call.the-variants.{NewEpoch, Reset}
 use Rattle.history.specs.History.{given, World, effectIn, after}
 use Rattle.history.specs.Earning.{Paused, reset, nextEpoch, Ask, Fair, Full, entriesOf, withList, Checked, asking, checked, complete, mostLists}
+use Rattle.history.specs.Earning.{joined, cutAnew}
 use Rattle.history.proofs.Pages.{momentOf}
 use Rattle.history.proofs.Formed.{formed-after, streams-after}
 use Rattle.history.proofs.Sound.{Sound, sound-after, sound-ok}
 use Rattle.history.proofs.Waiting.{Left}
+use Rattle.history.proofs.Cut.{with-append, with-few, anew-few}
 use Rattle.history.proofs.Looks.{Calm, paused-calm}
 use Rattle.history.proofs.Dchecks.{Between, GetsOn, dcheck-between, dcheck-gets-on}
-
--- ---- few lists
-
-with-few : (l : List ℕ) (ls : List (List ℕ)) → length (withList l ls) ≤ suc (length ls)
-with-few [] ls = omega arith
-with-few (x ∷ l) ls = omega arith
 
 -- ---- between two DCHECKs
 
@@ -58,10 +54,6 @@ asked-mid w n c ls a m =
       formed = formed-after w (asking a) (m .formed);
       between = dcheck-between (w .session) (w .table) (a .list) (a .budget) (m .formed) (mid-calm w n c ls m) n c ls (m .between);
     }
-
-with-append : (l : List ℕ) (ls : List (List ℕ)) → withList l ls ≡ withList l [] ++ ls
-with-append [] ls = refl
-with-append (x ∷ l) ls = refl
 
 checked-mid : (asks : List Ask) (w : World) (n c : ℕ) (ls : List (List ℕ)) → Mid w n c ls → Mid (checked w asks .world) n c (ls ++ checked w asks .lists)
 checked-mid [] w n c ls m = rw (append-nil ls) m
@@ -142,6 +134,7 @@ reset-mid w sound f p =
             created = refl;
             unfailed = refl;
             lists = λ l k. absurd (List·Memᴰ·not-nil k);
+            few = omega arith;
             passed = λ i k. absurd (omega (arith, k));
           });
     }
@@ -159,13 +152,13 @@ module _ (w : World) (sound : Sound w) (f : formed (w .session) (length (w .tabl
   check-ends fair far =
       let ours : pageCount (w .table) ≡ w .session .fixed .pages = formed-means (w .session) (length (w .table)) f .ours in
       enough-end 1
-      (λ a k. record { room = fair a k .some; most = fair a k .most; spent = λ i h l. omega (arith, fair a k .budget, h) })
+      (λ a k. record { room = omega (arith, fair a k .some); most = fair a k .most; spent = λ i h l. omega (arith, fair a k .budget, h) })
       (omega (arith, mul-one (length asks), ours, far))
 
   full-enough : ((a : Ask) → List·Memᴰ a asks → Full (pageCount (w .table)) a) → (a : Ask) → List·Memᴰ a asks → Enough mostEntries (w .session .fixed .pages) a
   full-enough full a k =
       let m = formed-means (w .session) (length (w .table)) f in
-      record { room = omega (arith, full a k .room); most = omega (arith, full a k .room); spent = λ i h l. absurd (omega (arith, full a k .budget, h, l, m .ours)) }
+      record { room = omega (arith, full a k .room); most = omega (arith, full a k .room); spent = λ i h l. omega (arith, full a k .budget, h, l, m .ours) }
 
   pub check-eight : ((a : Ask) → List·Memᴰ a asks → Full (pageCount (w .table)) a) → mostLists ≤ length asks → complete (checked (reset w) asks .world) ≡ true
   check-eight full eight =
@@ -178,6 +171,19 @@ module _ (w : World) (sound : Sound w) (f : formed (w .session) (length (w .tabl
       let s : resetOut (w .session) (w .table) ≡ outcome 0 (withCheck (w .session) unchecked) (w .table) = reset-makes (w .session) (w .table) f (p .phase) in
       let place : reset w .session .check .place ≡ 0 = rw s in
       few-lists mostEntries asks mostLists (reset w) (w .session .fixed .pages) (w .session .fixed .created) [] (reset-mid w sound f p) (rw s) (omega (arith, place, m .pages .low)) (full-enough full) (omega (arith, place, m .pages .high))
+
+  -- whatever their rooms and budgets, they give at most as many entries as there are pages
+  check-entries : length (joined (checked (reset w) asks .lists)) ≤ pageCount (w .table)
+  check-entries =
+      let end = checked-mid asks (reset w) (w .session .fixed .pages) (w .session .fixed .created) [] (reset-mid w sound f p) in
+      let m = formed-means (checked (reset w) asks .world .session) (length (checked (reset w) asks .world .table)) (end .formed) in
+      omega (arith, end .between .few, end .between .pages, m .place, formed-means (w .session) (length (w .table)) f .ours)
+
+  -- and so at most eight lists, cut anew
+  pub check-anew : length (cutAnew (checked (reset w) asks .lists)) ≤ mostLists
+  check-anew =
+      let m = formed-means (w .session) (length (w .table)) f in
+      anew-few mostLists (checked (reset w) asks .lists) (omega (arith, check-entries, m .ours, m .pages .high))
 
 -- ---- the new epoch
 

@@ -1,14 +1,15 @@
--- One DCHECK of a paused guest. Whatever list and budget it has, what stood below the place stays and what it passes is added to it; and if it has room and
--- budget it comes to the end or gets on.
-use mathlib.Core.Path.{_≡_, refl, sym, subst}
+-- One DCHECK of a paused guest. Whatever list and budget it has, what stood below the place stays and what it passes is added to it, with at most an entry for
+-- each page; and if it has room and budget it comes to the end or gets on.
+use mathlib.Core.Path.{_≡_, refl}
 use mathlib.Core.Logic.{_⊎_, inl, inr, ⊎-elim}
 use mathlib.Core.Bool.{true, false, cond, not}
-use mathlib.Core.List.{List, [], _∷_, _++_, append-nil, List·Memᴰ, List·Memᴰ·head, List·Memᴰ·not-nil, List·Memᴰ·cases-cons, List·Memᴰ·append-cases, Memᴰ·append-left, Memᴰ·append-right}
+use mathlib.Core.List.{List, [], _∷_, _++_, append-nil, List·Memᴰ, List·Memᴰ·head, List·Memᴰ·not-nil}
+use mathlib.Core.List.{List·Memᴰ·append-cases, Memᴰ·append-left, Memᴰ·append-right}
 use Prim.Native.Nat.{ℕ, suc, _+_, _-_, _≤_, _<_}
 use native.Mathlib.Omega.{arith}
 use native.Mathlib.Decide.{decLt}
 use lib.Dec.{eqb}
-use lib.ListN.{length, take, drop, length-take}
+use lib.ListN.{length, take, drop, length-take, length-append}
 use borrow.Author.Tests.{ltb-false, le-ltb, eqb-true, eqb-false}
 use Rattle.words.specs.Codes as codes
 use Rattle.refusals.specs.Refusals.{firstOf}
@@ -25,8 +26,9 @@ use Rattle.scan.specs.declared.ScanAnswer.{ScanAnswer}
 use Rattle.scan.proofs.Laws.{dcheck-fits}
 use Rattle.scan.proofs.Outcomes.{answer-session, answer-code, dchecked, dcheck-either}
 use Rattle.calls.specs.Calls.{scanEffect}
-use Rattle.history.specs.Earning.{entriesOf, withList}
+use Rattle.history.specs.Earning.{entriesOf, withList, joined}
 use Rattle.history.proofs.Waiting.{Due, Listed, Short, Named}
+use Rattle.history.proofs.Cut.{with-short, joined-with}
 use Rattle.history.proofs.Looks.{Calm}
 use Rattle.history.proofs.Passing.{Ending, Swept, range-swept}
 
@@ -43,6 +45,7 @@ pub record Between (s : Session) (t : List ℕ) (n c : ℕ) (ls : List (List ℕ
   pub created : s .fixed .created ≡ c
   pub unfailed : s .check .failed ≡ false
   pub lists : (l : List ℕ) → List·Memᴰ l ls → Short l
+  pub few : length (joined ls) ≤ s .check .place
   pub passed : (i : ℕ) → i < s .check .place → ReadyOrListed t ls i
 
 -- ---- the entries
@@ -53,14 +56,6 @@ listed-more ls ms i x = (x .0, Memᴰ·append-left ms (x .1), x .2)
 named-listed : (l : List ℕ) (i : ℕ) → Named l i → Listed (withList l []) i
 named-listed [] i x = absurd (List·Memᴰ·not-nil (x .1))
 named-listed (w ∷ l) i x = (w ∷ l, List·Memᴰ·head refl, x)
-
-with-short : (l : List ℕ) → length l ≤ mostEntries → (m : List ℕ) → List·Memᴰ m (withList l []) → Short m
-with-short [] h m k = absurd (List·Memᴰ·not-nil k)
-with-short (w ∷ l) h m k =
-    ⊎-elim
-    (λ (e : m ≡ w ∷ l). subst (λ (x : List ℕ). Short x) (sym e) (record { some = omega arith; most = h }))
-    (λ z. absurd (List·Memᴰ·not-nil z))
-    (List·Memᴰ·cases-cons k)
 
 -- a DCHECK that ran gives the words that it wrote
 ran-entries : (s : Session) (o : ScanOut) → within codes.interrupted codes.checkComplete (o .scanned .code) ≡ true → entriesOf (scanEffect (ranScan s o) []) ≡ take (o .scanned .put) (o .list)
@@ -135,7 +130,17 @@ module _ (s : Session) (t l : List ℕ) (budget : ℕ) (f : formed s (length t) 
       let w = swept z in
       let room : length l ≤ mostEntries = ltb-false _ _ (gate-open s (length t) (Blackout ∷ []) (dcheckTests s (length l)) refl z .passed .0) in
       let short : length (take (ran .scanned .put) (ran .list)) ≤ mostEntries = rw (length-take (ran .scanned .put) (ran .list)) (omega (arith, room, w .long)) in
-      ⊎-elim (λ x. old m x) (λ x. with-short (take (ran .scanned .put) (ran .list)) short m x) (List·Memᴰ·append-cases ls k)
+      ⊎-elim
+      (λ x. old m x)
+      (λ x. with-short (take (ran .scanned .put) (ran .list)) [] short (λ o n. absurd (List·Memᴰ·not-nil n)) m x)
+      (List·Memᴰ·append-cases ls k)
+
+  -- it gives at most an entry for each page that it passed
+  ran-few : (ls : List (List ℕ)) → length (joined ls) ≤ s .check .place → Swept (dcheckOf s budget) count t l ran
+      → length (joined (ls ++ withList (take (ran .scanned .put) (ran .list)) [])) ≤ ran .scanned .next
+  ran-few ls old w =
+      let new = take (ran .scanned .put) (ran .list) in
+      rw (joined-with ls new, length-append (joined ls) new, length-take (ran .scanned .put) (ran .list)) (omega (arith, w .few, w .next))
 
   pub dcheck-between : (n c : ℕ) (ls : List (List ℕ)) → Between s t n c ls → Between (dcheckOut s t l budget .answer .session) (dcheckOut s t l budget .table) n c (ls ++ withList (entriesOf (scanEffect (dcheckOut s t l budget) [])) [])
   unfolding checkedBy busy
@@ -153,6 +158,7 @@ module _ (s : Session) (t l : List ℕ) (budget : ℕ) (f : formed s (length t) 
         created = g .created;
         unfailed = known .1;
         lists = ran-lists ls (g .lists) z;
+        few = ran-few ls (g .few) w;
         passed = ran-passed n c ls g w;
       }))
       (rw (refused-entries s t l, append-nil ls) g)

@@ -1,5 +1,5 @@
 -- From a paused guest to the token: the check leaves each page ready, or due and listed; the lists, exported, leave each ready. Eight DCHECKs with
--- rooms of 512, and each list exported in one call, are always such a way.
+-- rooms of 512, and each list exported in one call, are always such a way; so are the entries of any check cut anew.
 use mathlib.Core.Path.{_≡_, refl, sym, ap, subst}
 use mathlib.Core.Logic.{⊎-elim}
 use mathlib.Core.Bool.{true, false}
@@ -8,18 +8,19 @@ use Prim.Native.Nat.{ℕ, zero, suc, _<_}
 use native.Mathlib.Omega.{arith}
 use lib.Dec.{lit<}
 use lib.ListN.{length, replicate, length-replicate}
-use Rattle.table.specs.Table.{mostPages, pageCount}
+use Rattle.table.specs.Table.{pageCount}
 use Rattle.session.specs.Formed.{busy, mostEntries}
 use Rattle.session.proofs.FormedLaws.{formed-means}
 use Rattle.history.specs.History.{World, History, atEnd}
-use Rattle.history.specs.Earning.{granted, Paused, Ask, Full, All, check, complete, mostLists, fullAsks, prepared, Sending, Whole, sendingAll, Plan, atOnce, Exporting, exportingAll, TookEvery}
+use Rattle.history.specs.Earning.{granted, Paused, Ask, Full, All, check, complete, mostLists, fullAsks, prepared, cutAnew}
+use Rattle.history.specs.Earning.{Sending, Whole, sendingAll, Plan, atOnce, Exporting, exportingAll, TookEvery}
 use Rattle.history.specs.Promises.{Earned}
 use Rattle.history.proofs.Sound.{sound-end}
 use Rattle.history.proofs.Formed.{stays-formed, streams-end}
 use Rattle.history.proofs.Waiting.{Left}
-use Rattle.history.proofs.Checks.{check-left, check-ends, check-eight, check-few}
+use Rattle.history.proofs.Checks.{check-left, check-ends, check-eight, check-few, check-anew}
 use Rattle.history.proofs.Anyhow.{left-anyhow}
-use Rattle.history.proofs.Lists.{left-granted}
+use Rattle.history.proofs.Lists.{left-anew, left-granted}
 
 -- what the check leaves to be exported
 left : (h : History) → Paused (atEnd h) → (asks : List Ask) → complete (check (atEnd h) asks .world) ≡ true → Left (prepared (atEnd h) asks) (atEnd h .session .fixed .created) (check (atEnd h) asks .lists)
@@ -41,8 +42,7 @@ alike P x p (suc n) y m = ⊎-elim (λ q. subst P (sym q) p) (λ k. alike P x p 
 
 asks-full : (h : History) → All (Full (pageCount (atEnd h .table))) fullAsks
 asks-full h =
-    let f = formed-means (atEnd h .session) (length (atEnd h .table)) (stays-formed .formed h) in
-    alike (Full (pageCount (atEnd h .table))) _ (record { room = length-replicate {A = ℕ} mostEntries 0; budget = omega (arith, f .ours, f .pages .high) }) mostLists
+    alike (Full (pageCount (atEnd h .table))) _ (record { room = length-replicate {A = ℕ} mostEntries 0; budget = omega arith }) mostLists
 
 lists-of : (ls : List (List ℕ)) → map (λ (x : Sending). x .list) (map atOnce ls) ≡ ls
 lists-of [] = refl
@@ -56,16 +56,29 @@ at-once w c (l ∷ ls) x m =
     (λ k. at-once w c ls x k)
     (List·Memᴰ·cases-cons m)
 
+-- each list in one call
+once-plan : (h : History) (ls : List (List ℕ)) → Plan (atEnd h) ls (map atOnce ls)
+once-plan h ls =
+    let f = formed-means (atEnd h .session) (length (atEnd h .table)) (stays-formed .formed h) in
+    record {
+      same = subst (λ (r : List (List ℕ)). List·Permᴰ ls r) (sym (lists-of ls)) (Permᴰ·refl ls);
+      whole = at-once (atEnd h) (omega (arith, f .created .low)) ls;
+    }
+
 always-earns : (h : History) → Paused (atEnd h) → granted (sendingAll (prepared (atEnd h) fullAsks) (map atOnce (check (atEnd h) fullAsks .lists))) ≡ true
 always-earns h p =
     let w = atEnd h in
-    let ls : List (List ℕ) = check w fullAsks .lists in
-    let f = formed-means (w .session) (length (w .table)) (stays-formed .formed h) in
-    lists-earn h p fullAsks (check-eight w (sound-end h) (stays-formed .formed h) p fullAsks (asks-full h) (omega (arith, length-replicate {A = Ask} mostLists (record { list = replicate mostEntries 0; budget = mostPages })))) (map atOnce ls)
-    (record {
-      same = subst (λ (r : List (List ℕ)). List·Permᴰ ls r) (sym (lists-of ls)) (Permᴰ·refl ls);
-      whole = at-once w (omega (arith, f .created .low)) ls;
-    })
+    let eight = length-replicate {A = Ask} mostLists (record { list = replicate mostEntries 0; budget = mostEntries }) in
+    lists-earn h p fullAsks (check-eight w (sound-end h) (stays-formed .formed h) p fullAsks (asks-full h) (omega (arith, eight))) _
+    (once-plan h (check w fullAsks .lists))
+
+anew-earns : (h : History) → Paused (atEnd h) → (asks : List Ask) → complete (check (atEnd h) asks .world) ≡ true
+    → granted (sendingAll (prepared (atEnd h) asks) (map atOnce (cutAnew (check (atEnd h) asks .lists)))) ≡ true
+anew-earns h p asks c =
+    let ls = check (atEnd h) asks .lists in
+    let w = prepared (atEnd h) asks in
+    let plan = once-plan h (cutAnew ls) in
+    left-granted (atEnd h) w (cutAnew ls) (map atOnce (cutAnew ls)) (left-anew w (atEnd h .session .created) ls (left h p asks c)) (plan .same) (plan .whole)
 
 pub earned : Earned
 earned =
@@ -75,5 +88,6 @@ earned =
       eight = λ h p asks full n. check-eight (atEnd h) (sound-end h) (stays-formed .formed h) p asks full n;
       few = λ h p asks full. check-few (atEnd h) (sound-end h) (stays-formed .formed h) p asks full;
       earned = lists-earn;
+      anew = λ h p asks c. (anew-earns h p asks c, check-anew (atEnd h) (sound-end h) (stays-formed .formed h) p asks);
       anyhow = exports-earn;
     }

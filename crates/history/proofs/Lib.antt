@@ -15,6 +15,7 @@ pub mod Exports
 pub mod Sound
 pub mod Safety
 pub mod Waiting
+pub mod Cut
 pub mod Looks
 pub mod Passing
 pub mod Dchecks

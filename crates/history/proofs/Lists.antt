@@ -1,5 +1,5 @@
--- The lists one after the other, in any order: each takes the pages that it names from what waits, and where no list is left nothing waits and the token is
--- granted.
+-- The lists one after the other, in any order or cut anew: each takes the pages that it names from what waits, and where no list is left nothing waits and the
+-- token is granted.
 use mathlib.Core.Path.{_≡_, refl}
 use mathlib.Core.Bool.{true, false}
 use mathlib.Core.List.{List, [], _∷_, map, List·Memᴰ, List·Memᴰ·head, List·Memᴰ·tail, List·Memᴰ·not-nil, List·Permᴰ, Permᴰ·symm}
@@ -22,16 +22,18 @@ use Rattle.session.proofs.FormedLaws.{busy-means}
 use Rattle.migration.proofs.Grant.{resting-is}
 use Rattle.bundle.proofs.Replay.{perm-mem}
 use Rattle.history.specs.History.{World}
-use Rattle.history.specs.Earning.{granted, Sending, Whole, firstInfo, sending, sendingAll}
+use Rattle.history.specs.Earning.{granted, cutAnew, Sending, Whole, firstInfo, sending, sendingAll}
 use Rattle.history.proofs.Waiting.{Listed, Short, Left}
+use Rattle.history.proofs.Cut.{anew-short, anew-listed}
 use Rattle.history.proofs.Ahead.{waits-map, listed-ahead}
 use Rattle.history.proofs.Anyhow.{left-anyhow}
 use Rattle.history.proofs.Resuming.{Going, exported-left}
 
--- ---- orders of the lists
+-- ---- other lists with the same entries
 
-left-same : (w : World) (n : ℕ) (ls ms : List (List ℕ)) → List·Permᴰ ls ms → Left w n ls → Left w n ms
-left-same w n ls ms p k =
+left-other : (w : World) (n : ℕ) (ls ms : List (List ℕ)) → ((l : List ℕ) → List·Memᴰ l ms → Short l) → ((i : ℕ) → Listed ls i → Listed ms i)
+    → Left w n ls → Left w n ms
+left-other w n ls ms short listed k =
     record {
       formed = k .formed;
       phase = k .phase;
@@ -39,9 +41,17 @@ left-same w n ls ms p k =
       streams = k .streams;
       complete = k .complete;
       created = k .created;
-      lists = λ l m. k .lists l (perm-mem (Permᴰ·symm p) m);
-      pages = λ i h. waits-map (w .session .epoch) (pageAt (w .table) i) (λ (x : Listed ls i). (x .0, perm-mem p (x .1), x .2)) (k .pages i h);
+      lists = short;
+      pages = λ i h. waits-map (w .session .epoch) (pageAt (w .table) i) (listed i) (k .pages i h);
     }
+
+-- in another order
+left-same : (w : World) (n : ℕ) (ls ms : List (List ℕ)) → List·Permᴰ ls ms → Left w n ls → Left w n ms
+left-same w n ls ms p k = left-other w n ls ms (λ l m. k .lists l (perm-mem (Permᴰ·symm p) m)) (λ i x. (x .0, perm-mem p (x .1), x .2)) k
+
+-- cut anew
+pub left-anew : (w : World) (n : ℕ) (ls : List (List ℕ)) → Left w n ls → Left w n (cutAnew ls)
+left-anew w n ls k = left-other w n ls (cutAnew ls) (anew-short ls) (anew-listed ls) k
 
 -- ---- one list
 

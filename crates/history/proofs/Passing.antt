@@ -167,6 +167,7 @@ pub record Swept (scan : Scan) (count : ℕ) (t l : List ℕ) (o : ScanOut) : Ty
   pub at : ℕ
   pub next : o .scanned .next ≡ scan .first + at
   pub how : Ending (scan .budget) (length l) (o .scanned .code) at count
+  pub few : o .scanned .put ≤ at
   pub long : length (o .list) ≡ length l
   pub before : (k : ℕ) → k < scan .first → pageAt (o .part) k ≡ pageAt t k
   pub passed : (k : ℕ) → scan .first ≤ k → k < scan .first + at → ReadyOrNamed (take (o .scanned .put) (o .list)) k (pageAt (o .part) k)
@@ -193,6 +194,7 @@ module _ (count : ℕ) (scan : Scan) (t l : List ℕ) (fits : 2 * scan .first + 
         at = r .at;
         next = r .next;
         how = r .how;
+        few = r .passing .few;
         long = r .passing .long;
         before = λ k h. ap pageOf (range-out count scan t l fits k (inl h));
         passed = λ k h m.

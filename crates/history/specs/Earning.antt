@@ -2,7 +2,7 @@
 use mathlib.Core.Path.{_≡_}
 use mathlib.Core.Bool.{Bool, true, false, cond}
 use mathlib.Core.List.{List, [], _∷_, _++_, map, List·Memᴰ, List·Permᴰ}
-use Prim.Native.Nat.{ℕ, suc, _+_, _-_, _/_, _^_, _≤_, _<_}
+use Prim.Native.Nat.{ℕ, zero, suc, _+_, _-_, _/_, _^_, min, _≤_, _<_}
 use lib.ListN.{length, take, drop, replicate}
 use lib.Dec.{eqb}
 use Rattle.words.specs.Codes as codes
@@ -43,10 +43,10 @@ pub record Fair (a : Ask) : Type 0 where
   pub most : length (a .list) ≤ mostEntries
   pub budget : 1 ≤ a .budget
 
--- room for 512 entries and a budget of at least some number
+-- room for 512 entries and a budget of at least 512, or of every page if these are fewer
 pub record Full (pages : ℕ) (a : Ask) : Type 0 where
   pub room : length (a .list) ≡ mostEntries
-  pub budget : pages ≤ a .budget
+  pub budget : min pages mostEntries ≤ a .budget
 
 -- every ask is of a kind
 abbrev pub All : (Ask → Type 0) → List Ask → Type 0
@@ -92,13 +92,29 @@ complete w = w .session .check .complete
 abbrev pub mostLists : ℕ
 mostLists = mostPages / mostEntries
 
--- eight DCHECKs with rooms of 512, whose budgets are enough for every guest
+-- eight DCHECKs with rooms and budgets of 512, which are enough for every guest
 abbrev pub fullAsks : List Ask
-fullAsks = replicate mostLists (record { list = replicate mostEntries 0; budget = mostPages })
+fullAsks = replicate mostLists (record { list = replicate mostEntries 0; budget = mostEntries })
 
 -- after the check, a new epoch
 abbrev pub prepared : World → List Ask → World
 prepared w asks = nextEpoch (check w asks .world)
+
+-- ---- the lists, cut anew
+
+-- their entries, one list's behind the other's
+abbrev pub joined : List (List ℕ) → List ℕ
+joined [] = []
+joined (l ∷ ls) = l ++ joined ls
+
+-- some entries, as many more and so on, at most n times; the last list may be shorter, and none is empty
+abbrev pub cutInto : ℕ → ℕ → List ℕ → List (List ℕ)
+cutInto size zero l = []
+cutInto size (suc n) l = withList (take size l) (cutInto size n (drop size l))
+
+-- lists of 512 entries: each takes one at least, so there are no more of them than entries
+abbrev pub cutAnew : List (List ℕ) → List (List ℕ)
+cutAnew ls = cutInto mostEntries (length (joined ls)) (joined ls)
 
 -- ---- the lists, one after the other
 

@@ -10,7 +10,8 @@ use Rattle.table.specs.Table.{pageCount, pageAt}
 use Rattle.session.specs.Formed.{busy, formed}
 use Rattle.bundle.specs.Bundle.{Holding, absent, holds, Sent, nothing, replay, Order, Once, Fits}
 use Rattle.history.specs.History.{World, History, atEnd}
-use Rattle.history.specs.Earning.{granted, Paused, Ask, Fair, Full, All, check, complete, mostLists, fullAsks, prepared, Sending, sendingAll, Plan, atOnce, Exporting, exportingAll, TookEvery}
+use Rattle.history.specs.Earning.{granted, Paused, Ask, Fair, Full, All, check, complete, mostLists, fullAsks, prepared, cutAnew}
+use Rattle.history.specs.Earning.{Sending, sendingAll, Plan, atOnce, Exporting, exportingAll, TookEvery}
 
 -- the states in which the guest has a data page, and a pending one
 abbrev pub guestsStates : List State
@@ -64,11 +65,15 @@ pub record Earned : Type 0 where
   pub always : (h : History) → Paused (atEnd h) → (granted (sendingAll (prepared (atEnd h) fullAsks) (map atOnce (check (atEnd h) fullAsks .lists))) ≡ true) × (length (check (atEnd h) fullAsks .lists) ≤ mostLists)
   -- with rooms of 1 to 512 and budgets of at least 1, as many DCHECKs as there are pages come to the end
   pub ends : (h : History) → Paused (atEnd h) → (asks : List Ask) → All Fair asks → pageCount (atEnd h .table) ≤ length asks → complete (check (atEnd h) asks .world) ≡ true
-  -- with rooms of 512 and budgets of at least the page count, eight do
+  -- with rooms of 512 and budgets of at least 512, or of the page count if that is less, eight do
   pub eight : (h : History) → Paused (atEnd h) → (asks : List Ask) → All (Full (pageCount (atEnd h .table))) asks → mostLists ≤ length asks → complete (check (atEnd h) asks .world) ≡ true
   -- and however many there are, they give at most eight lists
   pub few : (h : History) → Paused (atEnd h) → (asks : List Ask) → All (Full (pageCount (atEnd h .table))) asks → length (check (atEnd h) asks .lists) ≤ mostLists
   -- after a check that came to its end, whatever its rooms and budgets, its lists earn the token, in any order and with any budgets that come to their ends
   pub earned : (h : History) → Paused (atEnd h) → (asks : List Ask) → complete (check (atEnd h) asks .world) ≡ true → (xs : List Sending) → Plan (atEnd h) (check (atEnd h) asks .lists) xs → granted (sendingAll (prepared (atEnd h) asks) xs) ≡ true
-  -- and so do any calls of export that took every entry of its lists and left no stream interrupted
+  -- and so do its entries cut anew into lists of 512, of which there are at most eight
+  pub anew : (h : History) → Paused (atEnd h) → (asks : List Ask) → complete (check (atEnd h) asks .world) ≡ true
+      → (granted (sendingAll (prepared (atEnd h) asks) (map atOnce (cutAnew (check (atEnd h) asks .lists)))) ≡ true)
+      × (length (cutAnew (check (atEnd h) asks .lists)) ≤ mostLists)
+  -- and any calls of export that took every entry of its lists and left no stream interrupted
   pub anyhow : (h : History) → Paused (atEnd h) → (asks : List Ask) → complete (check (atEnd h) asks .world) ≡ true → (xs : List Exporting) → TookEvery (prepared (atEnd h) asks) (check (atEnd h) asks .lists) xs → busy (exportingAll (prepared (atEnd h) asks) xs .session) ≡ false → granted (exportingAll (prepared (atEnd h) asks) xs) ≡ true
