@@ -76,4 +76,9 @@ met =
           (List·Memᴰ·cases-cons (subst (List·Memᴰ word) (List·Memᴰ·eq-of-singleton m) k));
       rests = refl;
       anyhow = refl;
+      small = alike Fair _ (record { some = lit≤ tt; most = lit≤ tt; budget = lit≤ tt }) 4;
+      reach = lit≤ tt;
+      slow = refl;
+      cut = refl;
+      anew = refl;
     }

@@ -1,7 +1,7 @@
 -- A guest of four pages, moved while it runs: whatever the promises ask for is met by it.
 use mathlib.Core.Path.{_≡_}
 use mathlib.Core.Bool.{Bool, true, false}
-use mathlib.Core.List.{List, [], _∷_, _++_}
+use mathlib.Core.List.{List, [], _∷_, _++_, map}
 use Prim.Native.Nat.{ℕ, _+_, _*_, _^_, _≤_}
 use lib.ListN.{length, replicate}
 use Rattle.session.specs.Session.{newSession}
@@ -12,7 +12,8 @@ use Rattle.bundle.specs.Bundle.{Operation, migrate, cancel, remigrate, Sent, Or
 use Rattle.history.specs.History.{Given, given, accepted, newEffect, History, atEnd}
 use Rattle.table.specs.Table.{pageCount}
 use Rattle.session.specs.Formed.{busy, mostEntries}
-use Rattle.history.specs.Earning.{granted, Paused, Ask, Fair, Full, All, check, complete, mostLists, prepared, Sending, sendingAll, Plan, Exporting, exportingAll, TookEvery}
+use Rattle.history.specs.Earning.{granted, Paused, Ask, Fair, Full, All, check, complete, mostLists, prepared, cutAnew}
+use Rattle.history.specs.Earning.{Sending, sendingAll, Plan, atOnce, Exporting, exportingAll, TookEvery}
 
 -- whatever was there before
 abbrev pub before : Session
@@ -97,6 +98,10 @@ moved new calls = record { session = before; words = words; created = 3; new = n
 abbrev pub asks : List Ask
 asks = replicate mostLists (record { list = replicate mostEntries 7; budget = 4 })
 
+-- or a page at a time, with room for one entry
+abbrev pub smallAsks : List Ask
+smallAsks = replicate 4 (record { list = 7 ∷ []; budget = 1 })
+
 abbrev pub sendings : List Sending
 sendings = record { list = left; buffer = replicate 2 0; stream = 1; hpa = 5; budgets = 1 ∷ 0 ∷ 1 ∷ [] } ∷ []
 
@@ -124,3 +129,8 @@ pub record Met : Type 0 where
   pub taken : TookEvery (prepared (atEnd (moved new toPause)) asks) (check (atEnd (moved new toPause)) asks .lists) byTurns
   pub rests : busy (exportingAll (prepared (atEnd (moved new toPause)) asks) byTurns .session) ≡ false
   pub anyhow : granted (exportingAll (prepared (atEnd (moved new toPause)) asks) byTurns) ≡ true
+  pub small : All Fair smallAsks
+  pub reach : pageCount (atEnd (moved new toPause) .table) ≤ length smallAsks
+  pub slow : complete (check (atEnd (moved new toPause)) smallAsks .world) ≡ true
+  pub cut : cutAnew (check (atEnd (moved new toPause)) smallAsks .lists) ≡ left ∷ []
+  pub anew : granted (sendingAll (prepared (atEnd (moved new toPause)) smallAsks) (map atOnce (left ∷ []))) ≡ true
