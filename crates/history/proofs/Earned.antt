@@ -78,7 +78,7 @@ anew-earns h p asks c =
     let ls = check (atEnd h) asks .lists in
     let w = prepared (atEnd h) asks in
     let plan = once-plan h (cutAnew ls) in
-    left-granted (atEnd h) w (cutAnew ls) (map atOnce (cutAnew ls)) (left-anew w (atEnd h .session .created) ls (left h p asks c)) (plan .same) (plan .whole)
+    left-granted (atEnd h) w (cutAnew ls) (map atOnce (cutAnew ls)) (left-anew w (atEnd h .session .fixed .created) ls (left h p asks c)) (plan .same) (plan .whole)
 
 pub earned : Earned
 earned =
