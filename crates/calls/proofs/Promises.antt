@@ -33,8 +33,9 @@ use Rattle.migration.proofs.Laws.{token-numbers, token-number, new-epoch-table,
 use Rattle.scan.specs.Scan.{ScanOutcome, dscanOf, dcheckOf, checkedBy}
 use Rattle.scan.proofs.Outcomes.{OfScans, range-code, look-page, dscan-either, dscan-strange, dchecked, dcheck-either, dcheck-strange}
 use Rattle.scan.proofs.RangeLaws.{range-page}
-use Rattle.export.specs.Export.{ExportOutcome}
-use Rattle.export.proofs.Moves.{exported, step-page, step-failed, step-other, export-either, export-strange, finished-code}
+use Rattle.lists.proofs.Moves.{step-other}
+use Rattle.export.specs.Export.{exportStep, ExportOutcome}
+use Rattle.export.proofs.Moves.{exported, step-page, step-failed, export-either, export-strange, finished-code}
 use Rattle.calls.specs.Calls.{effect, scanEffect, exportEffect, effectOf}
 use Rattle.calls.specs.Promises.{OneOutcome, refusal, Kept, RefusalKeeps, isNew, StrangeStays, PagesMove}
 use Rattle.calls.specs.declared.Call.{Call}
@@ -214,4 +215,4 @@ unfolding answered
 sweep-done k s s' t i h = page-swept (sweptBy k) (swept-held k) t i h
 
 pub pages-move : PagesMove
-pages-move = record { one = page-done; others = page-other; all = sweep-done; entry = step-page; failed = step-failed; beside = step-other; range = range-page; look = look-page }
+pages-move = record { one = page-done; others = page-other; all = sweep-done; entry = step-page; failed = step-failed; beside = λ g. step-other (exportStep g); range = range-page; look = look-page }

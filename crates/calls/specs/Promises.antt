@@ -24,7 +24,8 @@ use Rattle.scan.specs.Scan.{rangeRun}
 use Rattle.scan.specs.declared.Scan.{Scan}
 use Rattle.entry.specs.Entry.{exportedPage}
 use Rattle.entry.specs.declared.Ground.{Ground}
-use Rattle.export.specs.Run.{Standing, gpaOf, taking, stepped}
+use Rattle.lists.specs.Run.{Standing, gpaOf, taking, stepped}
+use Rattle.export.specs.Export.{exportStep}
 use Rattle.calls.specs.Calls.{Effect, effectOf}
 use Rattle.calls.specs.declared.Call.{Call}
 use Rattle.calls.specs.declared.Call.the-variants.{New, Write, Add, Accept, Block, Unblock, Remove, Track, Start, Pause, Abort, NewEpoch, Reset, StartToken, Dscan, Dcheck, Export}
@@ -108,8 +109,8 @@ pub record PagesMove : Type 0 where
   pub one : (m : Move) (s : Session) (t : List ℕ) (at : ℕ) → onPage m s t at .answer .code ≡ 0 → pageAt (onPage m s t at .table) at ≡ movedBy m (s .clock) (pageAt t at)
   pub others : (m : Move) (s : Session) (t : List ℕ) (at k : ℕ) → (k ≡ at → ⊥) → wordsAt (onPage m s t at .table) k ≡ wordsAt t k
   pub all : (k : Sweep) (s s' : Session) (t : List ℕ) (i : ℕ) → i < pageCount t → pageAt (answeredBy (sweptBy k) 0 s s' t .table) i ≡ unlessStrange (sweptBy k) (pageAt t i)
-  pub entry : (g : Ground) (x : Standing) → g .epoch < 2 ^ 16 → gpaOf x < pageCount (x .table) → taking g x .status ≡ 0 → pageAt (stepped g x .table) (gpaOf x) ≡ exportedPage (g .epoch) (pageAt (x .table) (gpaOf x))
-  pub failed : (g : Ground) (x : Standing) → (taking g x .status ≡ 0 → ⊥) → wordsAt (stepped g x .table) (gpaOf x) ≡ wordsAt (x .table) (gpaOf x)
-  pub beside : (g : Ground) (x : Standing) (k : ℕ) → (k ≡ gpaOf x → ⊥) → wordsAt (stepped g x .table) k ≡ wordsAt (x .table) k
+  pub entry : (g : Ground) (x : Standing) → g .epoch < 2 ^ 16 → gpaOf x < pageCount (x .table) → taking (exportStep g) x .status ≡ 0 → pageAt (stepped (exportStep g) x .table) (gpaOf x) ≡ exportedPage (g .epoch) (pageAt (x .table) (gpaOf x))
+  pub failed : (g : Ground) (x : Standing) → (taking (exportStep g) x .status ≡ 0 → ⊥) → wordsAt (stepped (exportStep g) x .table) (gpaOf x) ≡ wordsAt (x .table) (gpaOf x)
+  pub beside : (g : Ground) (x : Standing) (k : ℕ) → (k ≡ gpaOf x → ⊥) → wordsAt (stepped (exportStep g) x .table) k ≡ wordsAt (x .table) k
   pub range : (count : ℕ) (scan : Scan) (t l : List ℕ) → 2 * scan .first + 2 * count ≤ length t → (k : ℕ) → LookedAt k (scan .clock) (wordsAt t k) (wordsAt (rangeRun count scan t l .part) k)
   pub look : (w : PageWords) (number : ℕ) (clock : Clock) → clock .tlb < 2 ^ 16 → pageOf (lookOf w number clock .words) ≡ listedPage clock (pageOf w)

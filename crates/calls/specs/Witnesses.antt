@@ -14,7 +14,8 @@ use Rattle.session.specs.declared.Phase.the-variants as phase
 use Rattle.session.specs.declared.Session.{Session}
 use Rattle.memory.specs.Memory.{onPage}
 use Rattle.entry.specs.declared.Ground.{Ground}
-use Rattle.export.specs.Run.{Standing, standing, gpaOf, taking}
+use Rattle.lists.specs.Run.{Standing, standing, gpaOf, taking}
+use Rattle.export.specs.Export.{exportStep}
 use Rattle.calls.specs.Calls.{effectOf}
 use Rattle.calls.specs.Promises.{refusal, isNew}
 use Rattle.calls.specs.declared.Call.the-variants.{Track, Pause}
@@ -59,8 +60,8 @@ pub record Met : Type 0 where
   pub all : 0 < pageCount free
   pub epoch : ground .epoch < 2 ^ 16
   pub entry : gpaOf before < pageCount (before .table)
-  pub succeeds : taking ground before .status ≡ 0
-  pub fails : taking ground unready .status ≡ 0 → ⊥
+  pub succeeds : taking (exportStep ground) before .status ≡ 0
+  pub fails : taking (exportStep ground) unready .status ≡ 0 → ⊥
   pub beside : 1 ≡ gpaOf before → ⊥
   pub range : 2 * 0 + 2 * 1 ≤ length free
   pub look : fresh .clock .tlb < 2 ^ 16

@@ -11,7 +11,7 @@ use Rattle.page.specs.Page.{pageOf, tracked}
 use Rattle.page.specs.declared.PageWords.{PageWords}
 use Rattle.table.specs.Table.{wordsAt, pageAt}
 use Rattle.entry.specs.Entry.{invalid, unexportable, statusOf, answerWord, sentEntry, failedEntry, takenOf}
-use Rattle.export.specs.Run.{standing, stepped}
+use Rattle.lists.specs.Run.{standing, stepped}
 use Rattle.export.specs.Marked.{Line, markedLines, Leaves, Every, MarkedTable}
 
 -- what an entry makes of the words of the page that the line names

@@ -1,40 +1,30 @@
 -- Export of a list.
 use mathlib.Core.Bool.{Bool, false, cond, not, _&&_}
-use mathlib.Core.List.{List, [], _∷_}
-use Prim.Native.Nat.{ℕ, _+_, _%_}
-use lib.Dec.{eqb, leb, ltb}
+use mathlib.Core.List.{List, [], _∷_, _++_}
+use Prim.Native.Nat.{ℕ, _+_}
+use lib.Dec.{eqb, leb}
 use lib.ListN.{length}
 use Rattle.words.specs.Codes as codes
-use Rattle.words.specs.Info.{infoOf, infoWord, withFirst}
+use Rattle.words.specs.Info.{infoOf}
 use Rattle.words.specs.declared.infos.Info.{Info}
 use Rattle.refusals.specs.Refusals.{Test, _gives_}
 use Rattle.session.specs.Session.{moving, workOf, withWork}
-use Rattle.session.specs.Formed.{gated, within, usable, workResting, mostEntries}
+use Rattle.session.specs.Formed.{gated, usable, workResting}
 use Rattle.session.specs.declared.Session.{Session}
 use Rattle.session.specs.declared.streams.Work.{Work}
 use Rattle.session.specs.declared.streams.Work.the-variants.{AtRest, Interrupted}
 use Rattle.entry.specs.declared.Ground.{Ground}
-use Rattle.export.specs.Run.{Standing, standing, exportRun}
-use Rattle.export.specs.declared.runs.Progress.{Progress}
+use Rattle.lists.specs.Kinds.{Step, takenBy}
+use Rattle.lists.specs.Run.{Standing, standing, listRun}
+use Rattle.lists.specs.List.{listTests, isOver, infoBack}
+use Rattle.lists.specs.declared.Kind.the-variants.{Export}
+use Rattle.lists.specs.declared.runs.Progress.{Progress}
 use Rattle.export.specs.declared.ExportAnswer.{ExportAnswer}
 
 -- ---- the tests, each by its name
 
-abbrev pub badLength : ℕ → Bool
-badLength entries = not (within 1 mostEntries entries)
-
 abbrev pub otherBuffer : ℕ → ℕ → Bool
 otherBuffer entries room = not (eqb room entries)
-
-abbrev pub badFormat : Info → Bool
-badFormat x = not (eqb (x .format) 0)
-
--- bits 54:52
-abbrev pub bitsSet : Info → Bool
-bitsSet x = not (eqb (x .zero52) 0)
-
-abbrev pub lastBeyond : ℕ → Info → Bool
-lastBeyond entries x = leb entries (x .last)
 
 -- interrupted, with this FIRST and LAST
 abbrev pub resumable : Work → Info → Bool
@@ -50,19 +40,16 @@ noNewCall resume work = not resume && not (workResting work)
 abbrev pub notFrom0 : Bool → Info → Bool
 notFrom0 resume x = not resume && not (eqb (x .first) 0)
 
--- 42; 44; then 42
+-- 42, of which it cannot be seen which test comes first; 44; then 42
 abbrev pub exportTests : Session → ℕ → ℕ → ℕ → Bool → Info → List Test
 exportTests s entries room stream resume x =
     not (usable s stream) gives codes.operandInvalid
-    ∷ badLength entries gives codes.operandInvalid
     ∷ otherBuffer entries room gives codes.operandInvalid
-    ∷ badFormat x gives codes.operandInvalid
-    ∷ bitsSet x gives codes.operandInvalid
-    ∷ lastBeyond entries x gives codes.operandInvalid
-    ∷ noResumption resume (workOf s stream) x gives codes.invalidResumption
+    ∷ (listTests entries x
+    ++ noResumption resume (workOf s stream) x gives codes.invalidResumption
     ∷ noNewCall resume (workOf s stream) gives codes.invalidResumption
     ∷ notFrom0 resume x gives codes.operandInvalid
-    ∷ []
+    ∷ [])
 
 unfoldable pub exportCode : Session → ℕ → ℕ → ℕ → ℕ → Bool → Info → ℕ
 exportCode s len entries room stream resume x = gated s len moving (exportTests s entries room stream resume x)
@@ -71,6 +58,10 @@ exportCode s len entries room stream resume x = gated s len moving (exportTests 
 
 unfoldable pub groundOf : Session → Ground
 groundOf s = record { phase = s .phase; clock = s .clock; epoch = s .epoch; pages = s .fixed .pages }
+
+-- what becomes of one entry
+abbrev pub exportStep : Ground → Step
+exportStep g = takenBy Export g
 
 -- a new call begins at entry 0 with no counts; a resumed one goes on
 abbrev pub begunBy : Work → Progress
@@ -81,23 +72,23 @@ begunBy (Interrupted next last errors filled) = record { next = next; errors = e
 unfoldable pub macPages : ℕ → ℕ
 macPages last = cond (leb 256 last) 2 1
 
--- at the end FIRST becomes (LAST+1) mod 512; the errors of the whole operation, 1 buffer for the list, those for MACs and the data pages; the stream at rest
+-- at the end the errors of the whole operation, 1 buffer for the list, those for MACs and the data pages; the stream at rest
 abbrev pub doneBy : Session → ℕ → Info → Progress → ExportAnswer
 doneBy s stream x at =
     record {
       code = codes.done;
-      info = infoWord (withFirst x ((x .last + 1) % mostEntries));
+      info = infoBack x (at .next);
       errors = at .errors;
       buffers = 1 + macPages (x .last) + at .filled;
       session = withWork s stream AtRest;
     }
 
--- before it FIRST becomes the next index; both counts 0; the stream interrupted
+-- before it both counts 0; the stream interrupted
 abbrev pub interruptedBy : Session → ℕ → Info → Progress → ExportAnswer
 interruptedBy s stream x at =
     record {
       code = codes.interrupted;
-      info = infoWord (withFirst x (at .next));
+      info = infoBack x (at .next);
       errors = 0;
       buffers = 0;
       session = withWork s stream (Interrupted (at .next) (x .last) (at .errors) (at .filled));
@@ -105,7 +96,7 @@ interruptedBy s stream x at =
 
 -- all done is tested before the budget
 unfoldable pub finishedBy : Session → ℕ → Info → Progress → ExportAnswer
-finishedBy s stream x at = cond (ltb (x .last) (at .next)) (doneBy s stream x at) (interruptedBy s stream x at)
+finishedBy s stream x at = cond (isOver x (at .next)) (doneBy s stream x at) (interruptedBy s stream x at)
 
 pub record ExportOutcome : Type 0 where
   pub answer : ExportAnswer
@@ -127,5 +118,5 @@ exportOut s t l b stream resume info budget =
     let x = infoOf info in
     let code = exportCode s (length t) (length l) (length b) stream resume x in
     cond (eqb code codes.done)
-    (ranExport s stream x (exportRun (groundOf s) (x .last) budget (standing (begunBy (workOf s stream)) t l b)))
+    (ranExport s stream x (listRun (exportStep (groundOf s)) (x .last) budget (standing (begunBy (workOf s stream)) t l b)))
     (refusedExport code s t l b)

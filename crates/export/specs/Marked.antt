@@ -10,8 +10,9 @@ use Rattle.table.specs.Table.{pageAt}
 use Rattle.session.specs.declared.Phase.{Phase}
 use Rattle.session.specs.declared.Phase.the-variants.{Live, Blackout}
 use Rattle.entry.specs.declared.Ground.{Ground}
-use Rattle.export.specs.Run.{standing, stepped}
-use Rattle.export.specs.declared.runs.Progress.{Progress}
+use Rattle.lists.specs.Run.{standing, stepped}
+use Rattle.lists.specs.declared.runs.Progress.{Progress}
+use Rattle.export.specs.Export.{exportStep}
 
 -- what is exported, and the word that comes back
 pub record Line : Type 0 where
@@ -56,7 +57,7 @@ markedLines p phase tlb =
 -- of every table whose page 5 is the line's, and of every list whose next word is its input, one step of export leaves its output
 abbrev pub Leaves : Line → Type 0
 Leaves x =
-    (at : Progress) (t l b : List ℕ) → at .next < length l → getD l (at .next) 0 ≡ x .input → pageAt t 5 ≡ x .page → getD (stepped (x .ground) (standing at t l b) .list) (at .next) 0 ≡ x .output
+    (at : Progress) (t l b : List ℕ) → at .next < length l → getD l (at .next) 0 ≡ x .input → pageAt t 5 ≡ x .page → getD (stepped (exportStep (x .ground)) (standing at t l b) .list) (at .next) 0 ≡ x .output
 
 abbrev pub Every : List Line → Type 0
 Every [] = Unit

@@ -1,11 +1,12 @@
-// Export of a list: its entries in turn, as far as the budget goes, on a stream that remembers where it was interrupted.
+// Export of a list: on a stream that remembers where it was interrupted, with its counts.
 ghost use mathlib.Core.Path.{_≡_};
 ghost use Prim.Native.Nat.{_+_, _≤_};
-ghost use Rattle.words.specs.Info.{infoWord, withFirst};
 ghost use Rattle.session.specs.Formed.{lastEntry};
 ghost use Rattle.export.specs.Export.{resumable, exportCode, groundOf, begunBy, macPages, finishedBy, exportOut};
-use crate::runs::Progress;
 use entry::Ground;
+use lists::Kind;
+use lists::runs;
+use lists::runs::Progress;
 use session::Session;
 use session::When;
 use session::streams;
@@ -13,9 +14,6 @@ use session::streams::Work;
 use words::codes;
 use words::infos;
 use words::infos::Info;
-
-// The run over the entries.
-pub mod runs;
 
 // What an export answers.
 pub struct ExportAnswer {
@@ -57,11 +55,9 @@ fn export_code(
     let resumable = is_resumable(work, x);
     let resting = streams::is_resting(work);
     let gate = session::gate(s, len, When::Moving);
-    let bad_length = !((1 <= entries) & (entries <= streams::MOST_ENTRIES));
+    let listed = lists::list_code(entries, x);
     let other_buffer = room != entries;
-    let bad_format = x.format != 0;
-    let bits_set = x.zero52 != 0;
-    let last_beyond = entries as u64 <= x.last;
+    let no_list = listed != codes::DONE;
     let no_resumption = resume & !resumable;
     let no_new_call = !resume & !resting;
     let not_from_0 = !resume & (x.first != 0);
@@ -71,20 +67,11 @@ fn export_code(
     if !usable {
         return codes::OPERAND_INVALID;
     }
-    if bad_length {
-        return codes::OPERAND_INVALID;
-    }
     if other_buffer {
         return codes::OPERAND_INVALID;
     }
-    if bad_format {
-        return codes::OPERAND_INVALID;
-    }
-    if bits_set {
-        return codes::OPERAND_INVALID;
-    }
-    if last_beyond {
-        return codes::OPERAND_INVALID;
+    if no_list {
+        return listed;
     }
     if no_resumption {
         return codes::INVALID_RESUMPTION;
@@ -143,27 +130,14 @@ fn mac_pages(last: u64) -> u64
     if ENTRIES_A_MAC_PAGE <= last { 2 } else { 1 }
 }
 
-// The info word that tells where the operation goes on.
-fn info_from(x: Info, first: u64) -> u64
-    ensures { λ r. ⌜ r ≡ infoWord (withFirst x first) ⌝ }
-{
-    infos::info_word(Info {
-        format: x.format,
-        first,
-        hpa: x.hpa,
-        zero52: x.zero52,
-        last: x.last,
-    })
-}
-
 fn finish(s: Session, stream: u64, x: Info, at: Progress) -> ExportAnswer
     requires { ⌜ (x .last ≤ lastEntry) × (at .next ≤ x .last + 1) × (at .filled ≤ at .next) ⌝ }
     ensures { λ r. ⌜ r ≡ finishedBy s stream x at ⌝ }
 {
     let last = x.last;
-    if last < at.next {
+    let info = lists::info_back(x, at.next);
+    if lists::is_over(x, at.next) {
         let macs = mac_pages(last);
-        let info = info_from(x, (last + 1) % (streams::LAST_ENTRY + 1));
         let session = streams::with_work(s, stream, Work::AtRest);
         return ExportAnswer {
             code: codes::DONE,
@@ -173,7 +147,6 @@ fn finish(s: Session, stream: u64, x: Info, at: Progress) -> ExportAnswer
             session,
         };
     }
-    let info = info_from(x, at.next);
     let work = Work::Interrupted {
         next: at.next,
         last,
@@ -220,6 +193,6 @@ pub fn export(
     let g = ground_of(s);
     let work = streams::work_of(s, stream);
     let from = begin(work);
-    let at = runs::run_entries(table, list, buffer, from, x.last, budget, g);
+    let at = runs::run_entries(table, list, buffer, from, x.last, budget, Kind::Export, g);
     finish(s, stream, x, at)
 }

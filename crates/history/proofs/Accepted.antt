@@ -4,7 +4,7 @@ use mathlib.Core.Bool.{Bool, true, not, false≢true}
 use mathlib.Core.List.{List, [], _∷_}
 use Prim.Native.Nat.{ℕ, zero, suc, _+_, _-_, _/_, _≤_, _<_}
 use native.Mathlib.Omega.{arith}
-use lib.Dec.{eqb, ltb, leb}
+use lib.Dec.{eqb}
 use lib.ListN.{length}
 use borrow.Author.Tests.{ltb-true, ltb-false, eqb-true}
 use Rattle.words.specs.Codes as codes
@@ -28,12 +28,13 @@ use Rattle.scan.specs.Scan.{stopTests, stopCode, ScanOut, scanRun, partOf, rang
 use Rattle.scan.specs.declared.Scan.{Scan}
 use Rattle.scan.specs.declared.Scanned.{Scanned}
 use Rattle.scan.proofs.Outcomes.{dchecked}
-use Rattle.entry.specs.declared.Ground.{Ground}
-use Rattle.export.specs.Run.{Standing, standing, stepped, exportRun}
-use Rattle.export.specs.Export.{exportTests, exportCode, groundOf, begunBy, finishedBy}
+use Rattle.lists.specs.Run.{standing}
+use Rattle.lists.specs.List.{isOver}
+use Rattle.lists.proofs.Laws.{Bounds, run-bounds}
+use Rattle.export.specs.Export.{exportTests, exportCode, groundOf, exportStep, begunBy, finishedBy}
 use Rattle.export.specs.declared.ExportAnswer.{ExportAnswer}
-use Rattle.export.proofs.Laws.{Bounds, run-bounds, export-ready}
-use Rattle.export.proofs.Moves.{step-length, exported}
+use Rattle.export.proofs.Laws.{export-ready}
+use Rattle.export.proofs.Moves.{exported}
 use Rattle.history.proofs.Sessions.{pause-formed, epoch-formed, check-formed, token-formed, run-formed, new-formed}
 
 -- ---- New
@@ -101,14 +102,6 @@ check-made s t l budget e =
 
 -- ---- an export
 
-pub export-length : (g : Ground) (last budget : ℕ) (x : Standing) → length (exportRun g last budget x .table) ≡ length (x .table)
-unfolding exportRun
-export-length g last zero x = refl
-export-length g last (suc budget) x =
-    either (λ (y : Standing). length (y .table) ≡ length (x .table)) (leb (x .at .next) last)
-    (λ q. export-length g last budget (stepped g x) ∙ step-length g x)
-    (λ q. refl)
-
 -- the stream is at rest at the end of the list, and else at an entry up to LAST
 pub export-made : (s : Session) (t l b : List ℕ) (stream : ℕ) (resume : Bool) (info budget : ℕ) → exportCode s (length t) (length l) (length b) stream resume (infoOf info) ≡ 0 → Formed (finishedBy s stream (infoOf info) (exported s t l b stream info budget .at) .session) (length t)
 unfolding exportCode finishedBy
@@ -121,8 +114,8 @@ export-made s t l b stream resume info budget e =
     let r = export-ready s (length t) (length l) (length b) stream resume x e in
     let at = exported s t l b stream info budget .at in
     let m : Bounds (x .last) at
-    = run-bounds (groundOf s) (x .last) budget (standing (begunBy (workOf s stream)) t l b) (record { next = omega (arith, r .ordered); counts = r .counts }) in
-    either (λ (a : ExportAnswer). Formed (a .session) (length t)) (ltb (x .last) (at .next))
+    = run-bounds (exportStep (groundOf s)) (x .last) budget (standing (begunBy (workOf s stream)) t l b) (record { next = omega (arith, r .ordered); counts = r .counts }) in
+    either (λ (a : ExportAnswer). Formed (a .session) (length t)) (isOver x (at .next))
     (λ q. run-formed f stream low AtRest tt)
     (λ q.
     run-formed f stream low (Interrupted (at .next) (x .last) (at .errors) (at .filled))

@@ -3,15 +3,12 @@ use mathlib.Core.Path.{_≡_, refl, sym, ap, _∙_, subst}
 use mathlib.Core.Logic.{_⊎_, inl, inr, ⊎-elim}
 use mathlib.Core.Bool.{Bool}
 use mathlib.Core.List.{List, [], _∷_, List·Memᴰ, List·Memᴰ·not-nil, List·Memᴰ·cases-cons}
-use Prim.Native.Nat.{ℕ, zero, suc, _+_, _/_, _^_, _≤_, _<_}
+use Prim.Native.Nat.{ℕ, suc, _+_, _/_, _^_, _≤_, _<_}
 use native.Mathlib.Omega.{arith}
 use native.Mathlib.Decide.{ℕ-discrete}
-use lib.Dec.{leb}
 use lib.ListN.{length, getD, set, length-set}
 use lib.Seq.{getD-set-other}
-use borrow.Author.Tests.{leb-false}
 use Rattle.words.specs.Info.{infoOf}
-use Rattle.refusals.proofs.Laws.{either}
 use Rattle.page.specs.Page.{pageOf}
 use Rattle.page.specs.Page.{Page}
 use Rattle.table.specs.Table.{pageCount, wordsAt, pageAt}
@@ -22,10 +19,12 @@ use Rattle.session.proofs.Laws.{gate-open}
 use Rattle.session.proofs.FormedLaws.{formed-means, epoch-fits}
 use Rattle.migration.specs.Grant.{Ready}
 use Rattle.entry.specs.declared.Ground.{Ground}
-use Rattle.export.specs.Run.{Standing, standing, wordOf, gpaOf, taking, counted, stepped, exportRun}
-use Rattle.export.specs.Export.{exportTests, exportCode, groundOf, begunBy}
+use Rattle.lists.specs.Run.{Standing, standing, wordOf, gpaOf, taking, counted, stepped, listRun}
+use Rattle.lists.proofs.Laws.{run-keeps}
+use Rattle.lists.proofs.Moves.{step-words, step-other, step-length}
+use Rattle.export.specs.Export.{exportTests, exportCode, groundOf, exportStep, begunBy}
 use Rattle.export.proofs.Laws.{export-ready}
-use Rattle.export.proofs.Moves.{step-words, step-other, step-length, exported}
+use Rattle.export.proofs.Moves.{exported}
 use Rattle.history.proofs.Exports.{begins}
 use Rattle.history.proofs.Waiting.{Names, Due, Listed}
 use Rattle.history.proofs.Turns.{ready-stays, due-either, due-taken}
@@ -76,25 +75,25 @@ module _ (g : Ground) (paused : g .phase ≡ Blackout) (fits : g .epoch < 2 ^ 16
     inside i h = rw (a .table) h
 
     -- a page that an entry does not name
-    page-apart : (i : ℕ) → (i ≡ gpaOf s → ⊥) → pageAt (stepped g s .table) i ≡ pageAt (s .table) i
-    page-apart i ne = ap pageOf (step-other g s i ne)
+    page-apart : (i : ℕ) → (i ≡ gpaOf s → ⊥) → pageAt (stepped (exportStep g) s .table) i ≡ pageAt (s .table) i
+    page-apart i ne = ap pageOf (step-other (exportStep g) s i ne)
 
-    page-named : (i : ℕ) → i < words / 2 → i ≡ gpaOf s → pageAt (stepped g s .table) i ≡ pageOf (taking g s .words)
+    page-named : (i : ℕ) → i < words / 2 → i ≡ gpaOf s → pageAt (stepped (exportStep g) s .table) i ≡ pageOf (taking (exportStep g) s .words)
     page-named i h e =
-        ap (pageAt (stepped g s .table)) e ∙ ap pageOf (step-words g s (subst (λ (k : ℕ). k < pageCount (s .table)) e (inside i h)))
+        ap (pageAt (stepped (exportStep g) s .table)) e ∙ ap pageOf (step-words (exportStep g) s (subst (λ (k : ℕ). k < pageCount (s .table)) e (inside i h)))
 
-    ready-step : (i : ℕ) → i < words / 2 → Ready (pageAt (s .table) i) → Ready (pageAt (stepped g s .table) i)
+    ready-step : (i : ℕ) → i < words / 2 → Ready (pageAt (s .table) i) → Ready (pageAt (stepped (exportStep g) s .table) i)
     ready-step i h r = elim (ℕ-discrete i (gpaOf s)) [ yes e ↦ named e | no ne ↦ subst Ready (sym (page-apart i ne)) r ]
       where
-        named : i ≡ gpaOf s → Ready (pageAt (stepped g s .table) i)
+        named : i ≡ gpaOf s → Ready (pageAt (stepped (exportStep g) s .table) i)
         named e =
             let there : Ready (pageAt (s .table) (gpaOf s)) = subst (λ (k : ℕ). Ready (pageAt (s .table) k)) e r in
             subst Ready (sym (page-named i h e ∙ ap pageOf (ready-stays (wordOf s) (wordsAt (s .table) (gpaOf s)) g there))) there
 
-    due-step : (i : ℕ) → i < words / 2 → Due (pageAt (s .table) i) → (pageAt (stepped g s .table) i ≡ pageAt (s .table) i) ⊎ Ready (pageAt (stepped g s .table) i)
+    due-step : (i : ℕ) → i < words / 2 → Due (pageAt (s .table) i) → (pageAt (stepped (exportStep g) s .table) i ≡ pageAt (s .table) i) ⊎ Ready (pageAt (stepped (exportStep g) s .table) i)
     due-step i h d = elim (ℕ-discrete i (gpaOf s)) [ yes e ↦ named e | no ne ↦ inl (page-apart i ne) ]
       where
-        named : i ≡ gpaOf s → (pageAt (stepped g s .table) i ≡ pageAt (s .table) i) ⊎ Ready (pageAt (stepped g s .table) i)
+        named : i ≡ gpaOf s → (pageAt (stepped (exportStep g) s .table) i ≡ pageAt (s .table) i) ⊎ Ready (pageAt (stepped (exportStep g) s .table) i)
         named e =
             ⊎-elim
             (λ q. inl (page-named i h e ∙ ap pageOf q ∙ ap (pageAt (s .table)) (sym e)))
@@ -102,7 +101,7 @@ module _ (g : Ground) (paused : g .phase ≡ Blackout) (fits : g .epoch < 2 ^ 16
             (due-either (wordOf s) (wordsAt (s .table) (gpaOf s)) g fits (subst (λ (k : ℕ). Due (pageAt (s .table) k)) e d))
 
     -- the entry whose turn it is names the page
-    due-now : (i : ℕ) → i < words / 2 → Names (wordOf s) i → Due (pageAt (s .table) i) → pageAt (s .table) i .migrated < g .epoch → Ready (pageAt (stepped g s .table) i)
+    due-now : (i : ℕ) → i < words / 2 → Names (wordOf s) i → Due (pageAt (s .table) i) → pageAt (s .table) i .migrated < g .epoch → Ready (pageAt (stepped (exportStep g) s .table) i)
     due-now i h names d older =
         let e : i ≡ gpaOf s = sym (names .page) in
         subst Ready (sym (page-named i h e))
@@ -111,41 +110,38 @@ module _ (g : Ground) (paused : g .phase ≡ Blackout) (fits : g .epoch < 2 ^ 16
         (subst (λ (k : ℕ). pageAt (s .table) k .migrated < g .epoch) e older))
 
     abbrev After : ℕ → Type 0
-    After i = Ahead (set (s .list) (s .at .next) (taking g s .word)) (s .at .next + 1) to Else i
+    After i = Ahead (set (s .list) (s .at .next) (taking (exportStep g) s .word)) (s .at .next + 1) to Else i
 
-    waits-step : (i : ℕ) → i < words / 2 → Waits (Ahead (s .list) (s .at .next) to Else i) (g .epoch) (pageAt (s .table) i) → Waits (After i) (g .epoch) (pageAt (stepped g s .table) i)
+    waits-step : (i : ℕ) → i < words / 2 → Waits (Ahead (s .list) (s .at .next) to Else i) (g .epoch) (pageAt (s .table) i) → Waits (After i) (g .epoch) (pageAt (stepped (exportStep g) s .table) i)
     waits-step i h (inl r) = inl (ready-step i h r)
     waits-step i h (inr x) = ⊎-elim here (λ y. later (inr y)) (x .2)
       where
-        later : After i → Waits (After i) (g .epoch) (pageAt (stepped g s .table) i)
+        later : After i → Waits (After i) (g .epoch) (pageAt (stepped (exportStep g) s .table) i)
         later y =
             ⊎-elim
             (λ q. inr (subst Due (sym q) (x .0), subst (λ (p : Page). p .migrated < g .epoch) (sym q) (x .1), y))
             (λ r. inl r)
             (due-step i h (x .0))
 
-        here : (j : ℕ) × (s .at .next ≤ j) × (j < to) × Names (getD (s .list) j 0) i → Waits (After i) (g .epoch) (pageAt (stepped g s .table) i)
+        here : (j : ℕ) × (s .at .next ≤ j) × (j < to) × Names (getD (s .list) j 0) i → Waits (After i) (g .epoch) (pageAt (stepped (exportStep g) s .table) i)
         here y =
             elim (ℕ-discrete (y .0) (s .at .next)) [
               | yes e ↦ inl (due-now i h (subst (λ (k : ℕ). Names (getD (s .list) k 0) i) e (y .3)) (x .0) (x .1))
-              | no ne ↦ later (inl (y .0, omega (arith, y .1, ne), y .2, rw (getD-set-other (s .list) (s .at .next) (y .0) (taking g s .word) 0 ne) (y .3)))
+              | no ne ↦ later (inl (y .0, omega (arith, y .1, ne), y .2, rw (getD-set-other (s .list) (s .at .next) (y .0) (taking (exportStep g) s .word) 0 ne) (y .3)))
             ]
 
-  along-step : (s : Standing) → Along (g .epoch) Else words entries to s → Along (g .epoch) Else words entries to (stepped g s)
+  along-step : (s : Standing) → Along (g .epoch) Else words entries to s → Along (g .epoch) Else words entries to (stepped (exportStep g) s)
   unfolding stepped counted
   along-step s a =
       record {
-        table = step-length g s ∙ a .table;
-        list = length-set (s .list) (s .at .next) (taking g s .word) ∙ a .list;
-        buffer = length-set (s .buffer) (s .at .next) (taking g s .buffer) ∙ a .buffer;
+        table = step-length (exportStep g) s ∙ a .table;
+        list = length-set (s .list) (s .at .next) (taking (exportStep g) s .word) ∙ a .list;
+        buffer = length-set (s .buffer) (s .at .next) (taking (exportStep g) s .buffer) ∙ a .buffer;
         waits = λ i h. waits-step s a i h (a .waits i h);
       }
 
-  pub along-run : (last budget : ℕ) (s : Standing) → Along (g .epoch) Else words entries to s → Along (g .epoch) Else words entries to (exportRun g last budget s)
-  unfolding exportRun
-  along-run last zero s a = a
-  along-run last (suc budget) s a =
-      either (Along (g .epoch) Else words entries to) (leb (s .at .next) last) (λ q. along-run last budget (stepped g s) (along-step s a)) (λ q. a)
+  pub along-run : (last budget : ℕ) (s : Standing) → Along (g .epoch) Else words entries to s → Along (g .epoch) Else words entries to (listRun (exportStep g) last budget s)
+  along-run last = run-keeps (Along (g .epoch) Else words entries to) (exportStep g) last (λ s q. along-step s)
 
 -- ---- a whole call
 
@@ -160,12 +156,3 @@ call-along s t l b stream resume info budget Else to paused e waits =
     along-run (groundOf s) paused (epoch-fits s (length t) (p .formed) (p .comes)) Else (length t) (length l) to (sym (f .ours)) (infoOf info .last) budget
     (standing (begunBy (workOf s stream)) t l b)
     (record { table = refl; list = refl; buffer = ready .same; waits = rw at waits })
-
--- the budget is used up, or the list is at its end
-pub run-far : (g : Ground) (last budget : ℕ) (s : Standing) → (s .at .next + budget ≤ exportRun g last budget s .at .next) ⊎ (last < exportRun g last budget s .at .next)
-unfolding exportRun stepped counted
-run-far g last zero s = inl (omega arith)
-run-far g last (suc budget) s =
-    either (λ (x : Standing). (s .at .next + suc budget ≤ x .at .next) ⊎ (last < x .at .next)) (leb (s .at .next) last)
-    (λ q. ⊎-elim (λ k. inl (omega (arith, k))) (λ k. inr k) (run-far g last budget (stepped g s)))
-    (λ q. inr (leb-false _ _ q))

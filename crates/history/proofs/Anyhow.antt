@@ -20,7 +20,7 @@ use Rattle.session.specs.declared.Session.{Session}
 use Rattle.session.specs.declared.streams.Stream.{Stream}
 use Rattle.session.proofs.FormedLaws.{busy-means}
 use Rattle.migration.proofs.Grant.{resting-is, granted-exactly}
-use Rattle.export.specs.Run.{Standing}
+use Rattle.lists.specs.Run.{Standing}
 use Rattle.export.specs.Export.{exportCode, ExportOutcome, refusedExport, ranExport, exportOut}
 use Rattle.export.proofs.Moves.{exported}
 use Rattle.calls.specs.Calls.{exportNumbers}

@@ -4,11 +4,11 @@ use mathlib.Core.Path.{_≡_, refl, sym, ap, _∙_}
 use mathlib.Core.Logic.{⊎-elim}
 use mathlib.Core.Bool.{Bool, true, false, not, _&&_, _||_}
 use mathlib.Core.List.{List}
-use Prim.Native.Nat.{ℕ, zero, suc, _+_, _*_, _^_, _≤_, _<_}
+use Prim.Native.Nat.{ℕ, _+_, _*_, _^_, _≤_, _<_}
 use native.Mathlib.Omega.{arith}
-use lib.Dec.{eqb, ltb, leb}
+use lib.Dec.{eqb, ltb}
 use lib.ListN.{length, replicate, length-replicate, getD-replicate}
-use borrow.Author.Tests.{eqb-true, eqb-false, ltb-true, ltb-false}
+use borrow.Author.Tests.{eqb-true, ltb-true, ltb-false}
 use Rattle.records.specs.Record.{recordOf, plain}
 use Rattle.refusals.proofs.Laws.{either, Passed, and-left, not-false}
 use Rattle.states.specs.States.{State, Free, stateOf, isIn, Change, hasMove, goesBy}
@@ -24,7 +24,7 @@ use Rattle.page.specs.declared.moves.Move.the-variants.{Write, Add, Accept, Blo
 use Rattle.page.specs.declared.sweeps.Sweep.{Sweep}
 use Rattle.page.specs.declared.sweeps.Sweep.the-variants.{Uncache, Start, Abort}
 use Rattle.page.proofs.MoveLaws.{swept-held}
-use Rattle.table.specs.Table.{pageCount, wordsAt, pageAt, putAt, sweepOf}
+use Rattle.table.specs.Table.{pageCount, wordsAt, pageAt, sweepOf}
 use Rattle.table.proofs.Laws.{sweep-past, page-swept}
 use Rattle.session.specs.declared.Session.{Session}
 use Rattle.memory.specs.Memory.{onPage}
@@ -37,8 +37,9 @@ use Rattle.scan.proofs.RangeLaws.{range-page}
 use Rattle.entry.specs.Entry.{takenOf}
 use Rattle.entry.specs.declared.Ground.{Ground}
 use Rattle.entry.proofs.Laws.{taken-either, exported-page}
-use Rattle.export.specs.Run.{Standing, wordOf, gpaOf, stepped, exportRun}
-use Rattle.export.proofs.Moves.{step-words, step-other}
+use Rattle.lists.specs.Run.{Standing, listRun}
+use Rattle.lists.proofs.Moves.{run-each}
+use Rattle.export.specs.Export.{exportStep}
 use Rattle.bundle.specs.Bundle.{Holding, absent, holds}
 use Rattle.history.specs.Promises.{guestsStates, contentOf, content}
 
@@ -153,28 +154,10 @@ range-content count scan t l r fits i =
     (λ seen. ap (λ (w : PageWords). content (pageOf w)) (seen .1) ∙ ap content (look-page (wordsAt t i) i (scan .clock) r) ∙ listed-content (scan .clock) (pageAt t i))
     (range-page count scan t l fits i)
 
--- an entry that names a page past the end changes nothing
-step-past : (g : Ground) (x : Standing) → ltb (gpaOf x) (pageCount (x .table)) ≡ false → stepped g x .table ≡ x .table
-unfolding stepped putAt
-step-past g x e = rw e
-
-entry-content : (g : Ground) (x : Standing) → g .epoch < 2 ^ 16 → (i : ℕ) → content (pageAt (stepped g x .table) i) ≡ content (pageAt (x .table) i)
-entry-content g x r i = go (eqb i (gpaOf x)) refl (ltb (gpaOf x) (pageCount (x .table))) refl
-  where
-    go : (a : Bool) → eqb i (gpaOf x) ≡ a → (b : Bool) → ltb (gpaOf x) (pageCount (x .table)) ≡ b → content (pageAt (stepped g x .table) i) ≡ content (pageAt (x .table) i)
-    go true p true q =
-        rw (eqb-true i (gpaOf x) p)
-        (ap (λ (w : PageWords). content (pageOf w)) (step-words g x (ltb-true _ _ q)) ∙ taken-content (wordOf x) (wordsAt (x .table) (gpaOf x)) g r)
-    go true p false q = ap (λ (t : List ℕ). content (pageAt t i)) (step-past g x q)
-    go false p b q = ap (λ (w : PageWords). content (pageOf w)) (step-other g x i (eqb-false i (gpaOf x) p))
-
-pub export-run-content : (g : Ground) (last budget : ℕ) (x : Standing) → g .epoch < 2 ^ 16 → (i : ℕ) → content (pageAt (exportRun g last budget x .table) i) ≡ content (pageAt (x .table) i)
-unfolding exportRun
-export-run-content g last zero x r i = refl
-export-run-content g last (suc budget) x r i =
-    either (λ (y : Standing). content (pageAt (y .table) i) ≡ content (pageAt (x .table) i)) (leb (x .at .next) last)
-    (λ q. export-run-content g last budget (stepped g x) r i ∙ entry-content g x r i)
-    (λ q. refl)
+-- an entry keeps what a page holds, and so does a run
+pub export-run-content : (g : Ground) (last budget : ℕ) (x : Standing) → g .epoch < 2 ^ 16 → (i : ℕ) → content (pageAt (listRun (exportStep g) last budget x .table) i) ≡ content (pageAt (x .table) i)
+export-run-content g last budget x r i =
+    run-each (λ (w : PageWords). content (pageOf w) ≡ content (pageAt (x .table) i)) (exportStep g) (λ word held w e. taken-content word w g r ∙ e) last budget x i refl
 
 -- ---- a call on one page
 

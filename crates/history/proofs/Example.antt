@@ -24,7 +24,8 @@ use Rattle.migration.specs.Token.{tokenCode, inTheWay, tokenFor, tokenOut}
 use Rattle.scan.specs.Look.{listed, listedWord, renewed, lookOf}
 use Rattle.scan.specs.Scan.{stopCode, endCode, scanRun, rangeRun, answerOf, checkedBy, withinTable, dscanCode, dscanOut, dcheckCode, dcheckOut}
 use Rattle.entry.specs.Entry.{invalid, unexportable, statusOf, answerWord, sentEntry, failedEntry, takenOf}
-use Rattle.export.specs.Run.{counted, stepped, exportRun}
+use Rattle.lists.specs.Run.{counted, stepped, listRun}
+use Rattle.lists.specs.List.{infoBack}
 use Rattle.export.specs.Export.{exportCode, groundOf, macPages, finishedBy, exportOut}
 use Rattle.bundle.specs.Bundle.{Sent, Rising}
 use Rattle.history.specs.Earning.{Fair, Full, Whole, mostLists}
@@ -54,7 +55,7 @@ rising-means [] e = tt
 rising-means (x ∷ l) e = (from-means (x .epoch) l (and-left (from (x .epoch) l) (rising l) e), rising-means l (and-right (from (x .epoch) l) (rising l) e))
 
 pub met : Met
-unfolding recordOf recordWord plain entryOf entryWord infoOf infoWord stateOf isStrange isIn hasMove goesBy numberIn pageOf onWords tracked gives53 gives54 writable keptStamp legal wordsAt putAt some workOf withWork busy formed gated answered newCode newOut onPage writeOut addOut acceptOut blockOut unblockOut removeOut trackCode trackOut startCode startOut pauseCode pauseOut abortCode abortOut newEpochCode newEpochOut resetCode resetOut tokenCode inTheWay tokenFor tokenOut listed listedWord renewed lookOf stopCode endCode scanRun rangeRun answerOf checkedBy withinTable dscanCode dscanOut dcheckCode dcheckOut invalid unexportable statusOf answerWord sentEntry failedEntry takenOf counted stepped exportRun exportCode groundOf macPages finishedBy exportOut
+unfolding recordOf recordWord plain entryOf entryWord infoOf infoWord stateOf isStrange isIn hasMove goesBy numberIn pageOf onWords tracked gives53 gives54 writable keptStamp legal wordsAt putAt some workOf withWork busy formed gated answered newCode newOut onPage writeOut addOut acceptOut blockOut unblockOut removeOut trackCode trackOut startCode startOut pauseCode pauseOut abortCode abortOut newEpochCode newEpochOut resetCode resetOut tokenCode inTheWay tokenFor tokenOut listed listedWord renewed lookOf stopCode endCode scanRun rangeRun answerOf checkedBy withinTable dscanCode dscanOut dcheckCode dcheckOut invalid unexportable statusOf answerWord sentEntry failedEntry takenOf counted stepped listRun infoBack exportCode groundOf macPages finishedBy exportOut
 met =
     record {
       new = refl;

@@ -5,11 +5,11 @@ use mathlib.Core.Bool.{Bool, true, false, _&&_, true≢false}
 use mathlib.Core.List.{List, _++_, append-assoc, append-nil}
 use Prim.Native.Nat.{ℕ, zero, suc, _+_, _-_, _^_, _≤_, _<_}
 use native.Mathlib.Omega.{arith}
-use lib.Dec.{eqb, leb, ltb}
+use lib.Dec.{eqb, ltb}
 use lib.ListN.{length, set, length-set}
 use lib.Seq.{getD-set-same, getD-set-other}
-use borrow.Author.Tests.{eqb-true, leb-true, ltb-true, ltb-false}
-use Rattle.words.specs.Info.{infoOf, infoWord, withFirst}
+use borrow.Author.Tests.{eqb-true, ltb-true, ltb-false}
+use Rattle.words.specs.Info.{infoOf, withFirst}
 use Rattle.words.specs.declared.infos.Info.{Info}
 use Rattle.words.proofs.InfoLaws.{info-fits, info-word}
 use Rattle.refusals.proofs.Laws.{either, and-left, not-false}
@@ -24,12 +24,15 @@ use Rattle.session.specs.declared.streams.Work.the-variants.{AtRest, Interrupte
 use Rattle.session.proofs.Laws.{gate-open}
 use Rattle.session.proofs.FormedLaws.{formed-means, epoch-fits}
 use Rattle.entry.specs.declared.Ground.{Ground}
-use Rattle.export.specs.Run.{Standing, standing, taking, counted, stepped, exportRun}
-use Rattle.export.specs.Export.{noResumption, noNewCall, notFrom0, exportTests, exportCode, groundOf, begunBy, finishedBy, ExportOutcome, ranExport, exportOut}
-use Rattle.export.specs.declared.runs.Progress.{Progress}
+use Rattle.lists.specs.Run.{Standing, standing, taking, counted, stepped, listRun}
+use Rattle.lists.specs.List.{isOver, infoBack}
+use Rattle.lists.specs.declared.runs.Progress.{Progress}
+use Rattle.lists.proofs.Laws.{run-keeps, run-bounds, back-next}
+use Rattle.lists.proofs.Moves.{step-length}
+use Rattle.export.specs.Export.{noResumption, noNewCall, notFrom0, exportTests, exportCode, groundOf, exportStep, begunBy, finishedBy, ExportOutcome, ranExport, exportOut}
 use Rattle.export.specs.declared.ExportAnswer.{ExportAnswer}
-use Rattle.export.proofs.Laws.{export-ready, run-bounds}
-use Rattle.export.proofs.Moves.{step-length, exported}
+use Rattle.export.proofs.Laws.{export-ready}
+use Rattle.export.proofs.Moves.{exported}
 use Rattle.calls.specs.Calls.{exportNumbers, exportEffect}
 use Rattle.bundle.specs.Bundle.{Sent}
 use Rattle.history.specs.History.{World, sentBy, sentFrom, cameTo, sentIn}
@@ -64,14 +67,14 @@ record Logging (g : Ground) (log : List Sent) (first last : ℕ) (s : Standing) 
   size : g .pages ≡ pageCount (s .table)
 
 module _ (g : Ground) (moves : among moving (g .phase) ≡ true) (small : g .epoch < 2 ^ 16) (log : List Sent) (first last : ℕ) where
-  logging-step : (s : Standing) → s .at .next ≤ last → Logging g log first last s → Logging g log first last (stepped g s)
+  logging-step : (s : Standing) → s .at .next ≤ last → Logging g log first last s → Logging g log first last (stepped (exportStep g) s)
   unfolding stepped counted
   logging-step s h a =
-      let x = taking g s in
+      let x = taking (exportStep g) s in
       let so : List Sent = log ++ sentFrom (g .epoch) (s .list) (s .buffer) first (s .at .next - first) in
       let more = one-more g s moves small (a .size) so (a .orderly) (a .fine) in
       let l : s .at .next < length (s .list) = omega (arith, h, a .long) in
-      let logs : sentFrom (g .epoch) (stepped g s .list) (stepped g s .buffer) first (s .at .next + 1 - first) ≡ sentFrom (g .epoch) (s .list) (s .buffer) first (s .at .next - first) ++ adds g s
+      let logs : sentFrom (g .epoch) (stepped (exportStep g) s .list) (stepped (exportStep g) s .buffer) first (s .at .next + 1 - first) ≡ sentFrom (g .epoch) (s .list) (s .buffer) first (s .at .next - first) ++ adds g s
       = sent-step (g .epoch) (s .list) (s .buffer) (s .at .next) (x .word) (x .buffer) first (a .from) l (rw (a .same) l) in
       record {
         orderly = rw (logs, ← append-assoc) (more .0);
@@ -79,16 +82,11 @@ module _ (g : Ground) (moves : among moving (g .phase) ≡ true) (small : g .epo
         from = omega (arith, a .from);
         long = rw length-set (a .long);
         same = length-set (s .buffer) _ _ ∙ a .same ∙ sym (length-set (s .list) _ _);
-        size = rw (step-length g s) (a .size);
+        size = rw (step-length (exportStep g) s) (a .size);
       }
 
-  logging-run : (budget : ℕ) (s : Standing) → Logging g log first last s → Logging g log first last (exportRun g last budget s)
-  unfolding exportRun
-  logging-run zero s a = a
-  logging-run (suc budget) s a =
-      either (Logging g log first last) (leb (s .at .next) last)
-      (λ e. logging-run budget (stepped g s) (logging-step s (leb-true _ _ e) a))
-      (λ e. a)
+  logging-run : (budget : ℕ) (s : Standing) → Logging g log first last s → Logging g log first last (listRun (exportStep g) last budget s)
+  logging-run = run-keeps (Logging g log first last) (exportStep g) last logging-step
 
 -- ---- how far an export came
 
@@ -106,26 +104,27 @@ begins s len entries room stream resume x e =
         sym (eqb-true (x .first) next (and-left (eqb (x .first) next) (eqb (x .last) last) (not-false (eqb (x .first) next && eqb (x .last) last) a)))
     go false (Interrupted next last errors filled) a b c = absurd (true≢false b)
 
--- an info word with another FIRST reads back
-pub info-back : (info next : ℕ) → next < 2 ^ 9 → infoOf (infoWord (withFirst (infoOf info) next)) ≡ withFirst (infoOf info) next
-info-back info next low =
+-- before the end the info word comes back with the next index as FIRST
+pub info-back : (info next : ℕ) → next ≤ infoOf info .last → next < 2 ^ 9 → infoOf (infoBack (infoOf info) next) ≡ withFirst (infoOf info) next
+info-back info next before low =
     let f = info-fits info in
-    info-word (withFirst (infoOf info) next) (record { format = f .format; first = low; hpa = f .hpa; zero52 = f .zero52; last = f .last })
+    rw (back-next (infoOf info) next before)
+    (info-word (withFirst (infoOf info) next) (record { format = f .format; first = low; hpa = f .hpa; zero52 = f .zero52; last = f .last }))
 
 -- the entry that a run came to, as its answer tells it
 came : (s : Session) (stream info : ℕ) (at : Progress) → at .next ≤ infoOf info .last + 1 → infoOf info .last ≤ lastEntry → cameTo info (exportNumbers (finishedBy s stream (infoOf info) at)) ≡ at .next
 unfolding finishedBy
 came s stream info at h short =
-    either (λ (a : ExportAnswer). cameTo info (exportNumbers a) ≡ at .next) (ltb (infoOf info .last) (at .next))
+    either (λ (a : ExportAnswer). cameTo info (exportNumbers a) ≡ at .next) (isOver (infoOf info) (at .next))
     (λ q. omega (arith, h, ltb-true (infoOf info .last) (at .next) q))
     (λ q.
-    let low : at .next < 2 ^ 9 = omega (arith, short, ltb-false (infoOf info .last) (at .next) q) in
-    ap (λ (x : Info). x .first) (info-back info (at .next) low))
+    let before : at .next ≤ infoOf info .last = ltb-false (infoOf info .last) (at .next) q in
+    ap (λ (x : Info). x .first) (info-back info (at .next) before (omega (arith, short))))
 
 pub ran-came : (s : Session) (t l b : List ℕ) (stream : ℕ) (resume : Bool) (info budget : ℕ) → exportCode s (length t) (length l) (length b) stream resume (infoOf info) ≡ 0 → cameTo info (exportNumbers (finishedBy s stream (infoOf info) (exported s t l b stream info budget .at))) ≡ exported s t l b stream info budget .at .next
 ran-came s t l b stream resume info budget e =
     let ready = export-ready s (length t) (length l) (length b) stream resume (infoOf info) e in
-    let bounds = run-bounds (groundOf s) (infoOf info .last) budget (standing (begunBy (workOf s stream)) t l b) (record { next = omega (arith, ready .ordered); counts = ready .counts }) in
+    let bounds = run-bounds (exportStep (groundOf s)) (infoOf info .last) budget (standing (begunBy (workOf s stream)) t l b) (record { next = omega (arith, ready .ordered); counts = ready .counts }) in
     came s stream info (exported s t l b stream info budget .at) (bounds .next) (ready .short)
 
 -- a refusal took none
@@ -143,7 +142,7 @@ run-streams P s stream run p = either P (ltb stream streamPlaces) (λ e. p _) (�
 pub finished-streams : (P : Session → Type 0) (s : Session) (stream : ℕ) (x : Info) (at : Progress) → ((l : List Stream) → P (withStreams s l)) → P (finishedBy s stream x at .session)
 unfolding finishedBy
 finished-streams P s stream x at p =
-    either (λ (a : ExportAnswer). P (a .session)) (ltb (x .last) (at .next)) (λ e. run-streams P s stream _ p) (λ e. run-streams P s stream _ p)
+    either (λ (a : ExportAnswer). P (a .session)) (isOver x (at .next)) (λ e. run-streams P s stream _ p) (λ e. run-streams P s stream _ p)
 
 module _ (w : World) (l b : List ℕ) (stream : ℕ) (resume : Bool) (info budget : ℕ) (o : Orderly (w .log)) (f : Stands (w .session) (w .table) (w .log)) where
   abbrev s : Session

@@ -33,9 +33,11 @@ use Rattle.migration.specs.Token.{tokenCode, tokenOut}
 use Rattle.scan.specs.Scan.{rangeRun, checkedBy, ScanOutcome, dscanOf, dcheckOf}
 use Rattle.scan.proofs.RangeLaws.{range-length}
 use Rattle.scan.proofs.Outcomes.{answer-session, dscan-either, dchecked, dcheck-either}
-use Rattle.export.specs.Run.{standing}
-use Rattle.export.specs.Export.{exportCode, groundOf, begunBy, finishedBy, ExportOutcome, exportOut}
-use Rattle.export.specs.declared.runs.Progress.{Progress}
+use Rattle.lists.specs.Run.{standing}
+use Rattle.lists.specs.List.{isOver}
+use Rattle.lists.specs.declared.runs.Progress.{Progress}
+use Rattle.lists.proofs.Promises.{run-promises}
+use Rattle.export.specs.Export.{exportCode, groundOf, exportStep, begunBy, finishedBy, ExportOutcome, exportOut}
 use Rattle.export.specs.declared.ExportAnswer.{ExportAnswer}
 use Rattle.export.proofs.Moves.{exported, export-either}
 use Rattle.calls.specs.Calls.{effectOf}
@@ -44,7 +46,7 @@ use Rattle.calls.specs.declared.Call.the-variants.{New, Write, Add, Accept, Blo
 use Rattle.history.specs.History.{Given, World, accepted, after, run, newEffect, newWorld, History, atEnd}
 use Rattle.history.specs.Promises.{StaysFormed}
 use Rattle.history.proofs.Sessions.{track-formed, start-formed, abort-formed, reset-formed}
-use Rattle.history.proofs.Accepted.{new-made, pause-made, epoch-made, token-made, check-made, export-length, export-made}
+use Rattle.history.proofs.Accepted.{new-made, pause-made, epoch-made, token-made, check-made, export-made}
 
 -- ---- every call
 
@@ -104,7 +106,7 @@ module _ (s : Session) (t : List ℕ) (f : formed s (length t) ≡ true) where
       let ran = exported s t l b stream info budget in
       either (λ (o : ExportOutcome). formed (o .answer .session) (length (o .table)) ≡ true) (eqb (exportCode s (length t) (length l) (length b) stream resume x) 0)
       (λ e.
-      rw (export-length (groundOf s) (x .last) budget (standing (begunBy (workOf s stream)) t l b))
+      rw (run-promises .lengths (exportStep (groundOf s)) (x .last) budget (standing (begunBy (workOf s stream)) t l b) .0)
       (means-formed (finishedBy s stream x (ran .at) .session) (length t) (export-made s t l b stream resume info budget (eqb-true _ _ e))))
       (λ e. f)
 
@@ -136,7 +138,7 @@ module _ (s : Session) (t : List ℕ) (n : length (s .streams) ≡ streamPlaces)
   export-streams : (stream : ℕ) (x : Info) (at : Progress) → length (finishedBy s stream x at .session .streams) ≡ streamPlaces
   unfolding finishedBy
   export-streams stream x at =
-      either (λ (a : ExportAnswer). length (a .session .streams) ≡ streamPlaces) (ltb (x .last) (at .next)) (λ e. run-streams stream AtRest) (λ e. run-streams stream (Interrupted (at .next) (x .last) (at .errors) (at .filled)))
+      either (λ (a : ExportAnswer). length (a .session .streams) ≡ streamPlaces) (isOver x (at .next)) (λ e. run-streams stream AtRest) (λ e. run-streams stream (Interrupted (at .next) (x .last) (at .errors) (at .filled)))
 
   call-streams : (l b : List ℕ) (c : Call) → length (effectOf c s t l b .returned .session .streams) ≡ streamPlaces
   unfolding newOut writeOut addOut acceptOut blockOut unblockOut removeOut trackOut startOut pauseOut abortOut newEpochOut resetOut checkedBy

@@ -22,8 +22,10 @@ use Rattle.session.specs.Session.{among, moving}
 use Rattle.entry.specs.Entry.{statusTests, statusOf, answerWord, exportedPage, sentEntry, failedEntry, takenOf}
 use Rattle.entry.specs.declared.Ground.{Ground}
 use Rattle.entry.proofs.Laws.{status-success, taken-status, exported-has}
-use Rattle.export.specs.Run.{Standing, wordOf, gpaOf, taking, stepped}
-use Rattle.export.proofs.Moves.{step-page, step-failed, step-other, step-length}
+use Rattle.lists.specs.Run.{Standing, wordOf, gpaOf, taking, stepped}
+use Rattle.lists.proofs.Moves.{step-other, step-length}
+use Rattle.export.specs.Export.{exportStep}
+use Rattle.export.proofs.Moves.{step-page, step-failed}
 use Rattle.bundle.specs.Bundle.{Sent, madeBy, Rising, Once}
 use Rattle.bundle.proofs.Replay.{rising-more, once-more, Lawful, lawful-more}
 use Rattle.history.specs.History.{sentBy}
@@ -89,7 +91,7 @@ module _ (g : Ground) (s : Standing) where
       record { epoch = g .epoch; page = gpaOf s; operation = sentAs (page .state); pending = isIn (page .state) pendingStates; contents = cond (isIn (page .state) dataStates) (page .mark) 0 }
 
   abbrev pub adds : List Sent
-  adds = sentBy (g .epoch) (taking g s .word) (taking g s .buffer)
+  adds = sentBy (g .epoch) (taking (exportStep g) s .word) (taking (exportStep g) s .buffer)
 
   sent-adds : statusOf (entryOf (wordOf s)) page g ≡ 0 → adds ≡ (sends ∷ [])
   unfolding takenOf sentEntry
@@ -103,15 +105,15 @@ module _ (g : Ground) (s : Standing) where
   left-adds e =
       rw (e, told-word (wordOf s) false operations.nop (statusOf (entryOf (wordOf s)) page g) (lit< tt) (status-lt (entryOf (wordOf s)) page g), e)
 
-  left-words : eqb (statusOf (entryOf (wordOf s)) page g) 0 ≡ false → (i : ℕ) → wordsAt (stepped g s .table) i ≡ wordsAt (s .table) i
+  left-words : eqb (statusOf (entryOf (wordOf s)) page g) 0 ≡ false → (i : ℕ) → wordsAt (stepped (exportStep g) s .table) i ≡ wordsAt (s .table) i
   left-words e i = go (eqb i (gpaOf s)) refl
     where
-      go : (b : Bool) → eqb i (gpaOf s) ≡ b → wordsAt (stepped g s .table) i ≡ wordsAt (s .table) i
+      go : (b : Bool) → eqb i (gpaOf s) ≡ b → wordsAt (stepped (exportStep g) s .table) i ≡ wordsAt (s .table) i
       go true q = rw (eqb-true i (gpaOf s) q) (step-failed g s (λ z. eqb-false _ _ e (sym (taken-status (wordOf s) (wordsAt (s .table) (gpaOf s)) g) ∙ z)))
-      go false q = step-other g s i (eqb-false _ _ q)
+      go false q = step-other (exportStep g) s i (eqb-false _ _ q)
 
   module _ (moves : among moving (g .phase) ≡ true) (small : g .epoch < 2 ^ 16) (size : g .pages ≡ pageCount (s .table)) (log : List Sent) (o : Orderly log) (f : Fine (momentOn g) log (s .table)) where
-    sent-more : statusOf (entryOf (wordOf s)) page g ≡ 0 → Orderly (log ++ (sends ∷ [])) × Fine (momentOn g) (log ++ (sends ∷ [])) (stepped g s .table)
+    sent-more : statusOf (entryOf (wordOf s)) page g ≡ 0 → Orderly (log ++ (sends ∷ [])) × Fine (momentOn g) (log ++ (sends ∷ [])) (stepped (exportStep g) s .table)
     sent-more e = (
       record {
         rising = rising-more log sends (o .rising) (f .past);
@@ -119,9 +121,9 @@ module _ (g : Ground) (s : Standing) where
         lawful = lawful-more log sends _ (old .has) (old .past) older (n .fits (old .has) (old .ok)) (f .past) (o .lawful);
       },
       record {
-        rows = rows-sent (momentOn g) log sends (s .table) (stepped g s .table) _ (step-length g s) l refl (step-page g s small l (taken-status (wordOf s) (wordsAt (s .table) (gpaOf s)) g ∙ e)) (step-other g s) n (f .rows);
+        rows = rows-sent (momentOn g) log sends (s .table) (stepped (exportStep g) s .table) _ (step-length (exportStep g) s) l refl (step-page g s small l (taken-status (wordOf s) (wordsAt (s .table) (gpaOf s)) g ∙ e)) (step-other (exportStep g) s) n (f .rows);
         past = λ y m. ⊎-elim (λ u. f .past y u) (λ u. omega (arith, ap (λ (v : Sent). v .epoch) (List·Memᴰ·eq-of-singleton u))) (List·Memᴰ·append-cases log m);
-        inside = λ y m. rw (step-length g s) (⊎-elim (λ u. f .inside y u) (λ u. omega (arith, l, ap (λ (v : Sent). v .page) (List·Memᴰ·eq-of-singleton u))) (List·Memᴰ·append-cases log m));
+        inside = λ y m. rw (step-length (exportStep g) s) (⊎-elim (λ u. f .inside y u) (λ u. omega (arith, l, ap (λ (v : Sent). v .page) (List·Memᴰ·eq-of-singleton u))) (List·Memᴰ·append-cases log m));
       },
     )
       where
@@ -137,9 +139,9 @@ module _ (g : Ground) (s : Standing) where
         older : page .migrated < g .epoch
         older = n .older (old .has) (old .ok)
 
-    pub one-more : Orderly (log ++ adds) × Fine (momentOn g) (log ++ adds) (stepped g s .table)
+    pub one-more : Orderly (log ++ adds) × Fine (momentOn g) (log ++ adds) (stepped (exportStep g) s .table)
     one-more = go (eqb (statusOf (entryOf (wordOf s)) page g) 0) refl
       where
-        go : (b : Bool) → eqb (statusOf (entryOf (wordOf s)) page g) 0 ≡ b → Orderly (log ++ adds) × Fine (momentOn g) (log ++ adds) (stepped g s .table)
+        go : (b : Bool) → eqb (statusOf (entryOf (wordOf s)) page g) 0 ≡ b → Orderly (log ++ adds) × Fine (momentOn g) (log ++ adds) (stepped (exportStep g) s .table)
         go true q = rw (sent-adds (eqb-true _ _ q)) (sent-more (eqb-true _ _ q))
-        go false q = rw (left-adds q, append-nil) (o, fine-steps (omega arith) (record { size = step-length g s; at = λ i h. rw (left-words q i) (stay (momentOn g) (pageAt (s .table) i)) }) f)
+        go false q = rw (left-adds q, append-nil) (o, fine-steps (omega arith) (record { size = step-length (exportStep g) s; at = λ i h. rw (left-words q i) (stay (momentOn g) (pageAt (s .table) i)) }) f)

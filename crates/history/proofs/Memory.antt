@@ -32,7 +32,7 @@ use Rattle.migration.proofs.Laws.{token-number, new-epoch-table, reset-table}
 use Rattle.scan.specs.Scan.{ScanOutcome, dscanTests, dscanCode, dscanOf, dscanOut, dcheckTests, dcheckCode, dcheckOf, dcheckOut}
 use Rattle.scan.proofs.Laws.{dscan-fits, dcheck-fits}
 use Rattle.scan.proofs.Outcomes.{dscan-either, dcheck-either}
-use Rattle.export.specs.Run.{standing}
+use Rattle.lists.specs.Run.{standing}
 use Rattle.export.specs.Export.{exportTests, exportCode, groundOf, begunBy, ExportOutcome, exportOut}
 use Rattle.calls.specs.Calls.{Effect}
 use Rattle.calls.specs.declared.Call.{Call}

@@ -7,10 +7,10 @@ use mathlib.Core.List.{List, [], _∷_, List·Memᴰ}
 use Prim.Native.Nat.{ℕ, _+_, _≤_, _<_}
 use native.Mathlib.Omega.{arith}
 use native.Mathlib.Decide.{ℕ-discrete}
-use lib.Dec.{eqb, ltb}
+use lib.Dec.{eqb}
 use lib.ListN.{length, getD, set}
 use lib.Seq.{getD-set-same, getD-set-other}
-use borrow.Author.Tests.{lt-ltb, le-ltb, ltb-true, ltb-false, le-leb, lt-leb, eq-eqb}
+use borrow.Author.Tests.{lt-ltb, ltb-true, ltb-false, le-leb, lt-leb, eq-eqb}
 use Rattle.words.specs.Codes as codes
 use Rattle.words.specs.Info.{infoOf, withFirst}
 use Rattle.words.specs.declared.infos.Info.{Info}
@@ -26,8 +26,10 @@ use Rattle.session.specs.declared.streams.Stream.{Stream}
 use Rattle.session.specs.declared.streams.Work.the-variants.{AtRest, Interrupted}
 use Rattle.session.proofs.Laws.{open-gate}
 use Rattle.session.proofs.FormedLaws.{formed-means, means-busy}
-use Rattle.export.specs.Run.{Standing, standing}
-use Rattle.export.specs.Export.{noResumption, noNewCall, notFrom0, exportTests, exportCode, groundOf, begunBy, doneBy, interruptedBy, finishedBy, ExportOutcome, ranExport, exportOut}
+use Rattle.lists.specs.Run.{Standing, standing}
+use Rattle.lists.specs.List.{isOver}
+use Rattle.lists.proofs.Laws.{run-far}
+use Rattle.export.specs.Export.{noResumption, noNewCall, notFrom0, exportTests, exportCode, groundOf, exportStep, begunBy, doneBy, interruptedBy, finishedBy, ExportOutcome, ranExport, exportOut}
 use Rattle.export.specs.declared.ExportAnswer.{ExportAnswer}
 use Rattle.export.proofs.Moves as moves
 use Rattle.calls.specs.Calls.{exportEffect}
@@ -37,7 +39,7 @@ use Rattle.history.specs.Earning.{total, exported}
 use Rattle.history.proofs.Formed.{formed-after, streams-after}
 use Rattle.history.proofs.Exports.{begins, info-back}
 use Rattle.history.proofs.Waiting.{Listed, Short, Left}
-use Rattle.history.proofs.Ahead.{Ahead, Waits, waits-map, none-ahead, Along, call-along, run-far}
+use Rattle.history.proofs.Ahead.{Ahead, Waits, waits-map, none-ahead, Along, call-along}
 
 -- a new call finds its stream at rest and begins with entry 0; a resumed one finds it interrupted at its own FIRST and LAST
 abbrev Finds : Bool → ℕ → ℕ → Work → Type 0
@@ -93,9 +95,9 @@ module _ (n stream entries : ℕ) (rest : List (List ℕ)) where
             passed = (
               ap not (lt-ltb (stream + 1) (s .fixed .created) (omega (arith, k .created))),
               (
-                rw (le-leb 1 (length l) (omega (arith, k .last, k .list)), le-leb (length l) mostEntries (omega (arith, k .list))),
+                ap not (eq-eqb (length b) (length l) (k .buffer ∙ sym (k .list))),
                 (
-                  ap not (eq-eqb (length b) (length l) (k .buffer ∙ sym (k .list))),
+                  rw (le-leb 1 (length l) (omega (arith, k .last, k .list)), le-leb (length l) mostEntries (omega (arith, k .list))),
                   (
                     rw (k .format),
                     (
@@ -174,7 +176,7 @@ module _ (n stream entries : ℕ) (rest : List (List ℕ)) where
           )
 
       next-info : left .at .next ≤ x .last → infoOf (interruptedBy s stream x (left .at) .info) ≡ withFirst x (left .at .next)
-      next-info q = info-back info (left .at .next) (omega (arith, q, info-fits info .last))
+      next-info q = info-back info (left .at .next) q (omega (arith, q, info-fits info .last))
 
       goes-on : left .at .next ≤ x .last → Kept (ran (interruptedBy s stream x (left .at))) → Came (ran (interruptedBy s stream x (left .at)))
       goes-on q kept =
@@ -183,7 +185,7 @@ module _ (n stream entries : ℕ) (rest : List (List ℕ)) where
             refl,
             (
               left .at .next,
-              ⊎-elim (λ far. omega (arith, far, begins s (length (w .table)) (length l) (length b) stream resume x accepted, k .first)) (λ end. absurd (omega (arith, end, q))) (run-far (groundOf s) (x .last) budget (standing (begunBy (workOf s stream)) (w .table) l b)),
+              ⊎-elim (λ far. omega (arith, far, begins s (length (w .table)) (length l) (length b) stream resume x accepted, k .first)) (λ end. absurd (omega (arith, end, q))) (run-far (exportStep (groundOf s)) (x .last) budget (standing (begunBy (workOf s stream)) (w .table) l b)),
               record {
                 formed = kept .0;
                 phase = rw (set-run r) (k .phase);
@@ -209,7 +211,7 @@ module _ (n stream entries : ℕ) (rest : List (List ℕ)) where
       came =
           let outcome : exportOut s (w .table) l b stream resume info budget ≡ ranExport s stream x left = rw accepted in
           subst (λ (o : ExportOutcome). Kept o → Came o) (sym outcome)
-          (either (λ (a : ExportAnswer). Kept (ran a) → Came (ran a)) (ltb (x .last) (left .at .next)) (λ q. ended (ltb-true _ _ q)) (λ q. goes-on (ltb-false _ _ q)))
+          (either (λ (a : ExportAnswer). Kept (ran a) → Came (ran a)) (isOver x (left .at .next)) (λ q. ended (ltb-true _ _ q)) (λ q. goes-on (ltb-false _ _ q)))
           (formed-after w g (k .formed), streams-after w g (k .streams))
 
     -- budgets that come to the end

@@ -6,9 +6,10 @@ use denote.Ref.{now}
 use borrow.Author.Tests.{eq-eqb, ne-eqb}
 use Rattle.session.specs.Session.{workOf}
 use Rattle.session.proofs.Laws.{below-next}
-use Rattle.export.specs.Run.{standing}
-use Rattle.export.specs.Export.{begunBy, exportOut}
-use Rattle.export.proofs.Laws.{Ready, export-ready, run-bounds}
+use Rattle.lists.specs.Run.{standing}
+use Rattle.lists.proofs.Laws.{run-bounds}
+use Rattle.export.specs.Export.{exportStep, begunBy, exportOut}
+use Rattle.export.proofs.Laws.{Ready, export-ready}
 use Rattle.export.proofs.export.Statement.{statement}
 use Rattle.export.proofs.export.Tie as tie
 
@@ -43,7 +44,7 @@ run-entries-requires c κs =
     let at-begin = c .before .before .before in
     let ready = go-on at-begin in
     let from = begun at-begin in
-    (ready .within, ready .same, ready .short, rw from (ready .ordered), rw from (ready .counts .errors), rw from (ready .counts .filled))
+    (ready .short, rw from (below-next _ _ (ready .ordered)), rw from (ready .counts .errors), rw from (ready .counts .filled))
 
 finish-requires : tie.Need-finish-requires
 finish-requires c κs =
@@ -52,7 +53,7 @@ finish-requires c κs =
     let ready = go-on at-begin in
     let start = at-begin .before .before .before .before .before .before .before .before .before in
     let from = standing (begunBy (workOf (start .args .s) (start .args .stream))) (now (start .args .table)) (now (start .args .list)) (now (start .args .buffer)) in
-    let bounds = run-bounds (at-begin .before .before .ground-of .result) (at-begin .before .before .before .before .before .info-of .result .last) (start .args .budget) from (record { next = below-next _ _ (ready .ordered); counts = ready .counts }) in
+    let bounds = run-bounds (exportStep (at-begin .before .before .ground-of .result)) (at-begin .before .before .before .before .before .info-of .result .last) (start .args .budget) from (record { next = below-next _ _ (ready .ordered); counts = ready .counts }) in
     let ended = at-run-entries .run-entries .ensures .0 in
     (ready .short, rw (ended, begun at-begin) (bounds .next), rw (ended, begun at-begin) (bounds .counts .filled))
 

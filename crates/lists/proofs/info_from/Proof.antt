@@ -1,7 +1,7 @@
 -- The info word is written with another FIRST.
 use borrow.Author.Needs.{needs}
-use Rattle.export.proofs.info_from.Statement.{statement}
-use Rattle.export.proofs.info_from.Tie as tie
+use Rattle.lists.proofs.info_from.Statement.{statement}
+use Rattle.lists.proofs.info_from.Tie as tie
 
 info-word-requires : tie.Need-info-word-requires
 info-word-requires c κs = search needs

@@ -8,12 +8,11 @@ use Rattle.words.specs.Entry.{entryOf}
 use Rattle.words.specs.Runs.{bit}
 use Rattle.words.specs.Statuses as statuses
 use Rattle.table.specs.Table.{wordsAt, putAt}
-use Rattle.entry.specs.Entry.{takenOf}
-use Rattle.entry.specs.declared.Ground.{Ground}
 use Rattle.entry.specs.declared.Taken.{Taken}
-use Rattle.export.specs.declared.runs.Progress.{Progress}
+use Rattle.lists.specs.Kinds.{Step}
+use Rattle.lists.specs.declared.runs.Progress.{Progress}
 
--- all that an export changes
+-- all that a list's entries change
 pub record Standing : Type 0 where
   pub at : Progress
   pub table : List ℕ
@@ -30,9 +29,13 @@ wordOf s = getD (s .list) (s .at .next) 0
 abbrev pub gpaOf : Standing → ℕ
 gpaOf s = entryOf (wordOf s) .gpa
 
+-- its word in the buffer; 0 where the buffer has none
+abbrev pub heldOf : Standing → ℕ
+heldOf s = getD (s .buffer) (s .at .next) 0
+
 -- what becomes of the next entry
-abbrev pub taking : Ground → Standing → Taken
-taking g s = takenOf (wordOf s) (wordsAt (s .table) (gpaOf s)) g
+abbrev pub taking : Step → Standing → Taken
+taking f s = f (wordOf s) (heldOf s) (wordsAt (s .table) (gpaOf s))
 
 -- errors: status neither 0 nor 1
 unfoldable pub counted : Progress → Taken → Progress
@@ -43,15 +46,15 @@ counted at got =
       filled = at .filled + bit (got .contents);
     }
 
--- one entry
-unfoldable pub stepped : Ground → Standing → Standing
-stepped g s =
-    standing (counted (s .at) (taking g s))
-    (putAt (s .table) (gpaOf s) (taking g s .words))
-    (set (s .list) (s .at .next) (taking g s .word))
-    (set (s .buffer) (s .at .next) (taking g s .buffer))
+-- one entry, by the step of its call; where the buffer has no word for it none is written
+unfoldable pub stepped : Step → Standing → Standing
+stepped f s =
+    standing (counted (s .at) (taking f s))
+    (putAt (s .table) (gpaOf s) (taking f s .words))
+    (set (s .list) (s .at .next) (taking f s .word))
+    (set (s .buffer) (s .at .next) (taking f s .buffer))
 
 -- entries in turn up to the last one, no more than the budget
-unfoldable pub exportRun : Ground → ℕ → ℕ → Standing → Standing
-exportRun g last zero s = s
-exportRun g last (suc budget) s = cond (leb (s .at .next) last) (exportRun g last budget (stepped g s)) s
+unfoldable pub listRun : Step → ℕ → ℕ → Standing → Standing
+listRun f last zero s = s
+listRun f last (suc budget) s = cond (leb (s .at .next) last) (listRun f last budget (stepped f s)) s

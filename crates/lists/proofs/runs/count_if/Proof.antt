@@ -2,8 +2,8 @@
 use borrow.Author.Needs.{needs}
 use native.Mathlib.Omega.{arith}
 use Rattle.words.proofs.Runs.{bit-lt}
-use Rattle.export.proofs.runs.count_if.Statement.{statement}
-use Rattle.export.proofs.runs.count_if.Tie as tie
+use Rattle.lists.proofs.runs.count_if.Statement.{statement}
+use Rattle.lists.proofs.runs.count_if.Tie as tie
 
 cast-result : tie.Need-cast-result
 cast-result c = search needs

@@ -1,8 +1,8 @@
 -- No count passes the next index, so each has room for one more.
 use native.Mathlib.Omega.{arith}
-use Rattle.export.specs.Run.{counted}
-use Rattle.export.proofs.runs.count.Statement.{statement}
-use Rattle.export.proofs.runs.count.Tie as tie
+use Rattle.lists.specs.Run.{counted}
+use Rattle.lists.proofs.runs.count.Statement.{statement}
+use Rattle.lists.proofs.runs.count.Tie as tie
 
 count-if-requires : tie.Need-count-if-requires
 count-if-requires c κs = omega (arith, c .pre .0, c .pre .1)

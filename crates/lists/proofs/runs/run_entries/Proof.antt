@@ -5,21 +5,22 @@ use Prim.Native.Nat.{_+_, _-_, _≤_}
 use native.Mathlib.Omega.{arith}
 use native.Mathlib.Nat.{sub-zero}
 use lib.ListN.{length}
-use Rattle.export.specs.Run.{standing, exportRun}
-use Rattle.export.proofs.Laws.{run-spent, run-end, run-step, returned, Counts, counts-step, next-step}
-use Rattle.export.proofs.runs.run_entries.Statement.{statement}
-use Rattle.export.proofs.runs.run_entries.Tie as tie
+use Rattle.lists.specs.Kinds.{takenBy}
+use Rattle.lists.specs.Run.{standing, listRun}
+use Rattle.lists.proofs.Laws.{run-spent, run-end, run-step, returned, Counts, counts-step, next-step}
+use Rattle.lists.proofs.runs.run_entries.Statement.{statement}
+use Rattle.lists.proofs.runs.run_entries.Tie as tie
 
 abbrev Inv-loop : tie.InvT-loop
-Inv-loop table₀ list₀ buffer₀ last budget g at₀ spent₀ table list buffer at spent =
+Inv-loop table₀ list₀ buffer₀ last budget kind g at₀ spent₀ table list buffer at spent =
     (length table ≡ length table₀) × (length list ≡ length list₀) × (length buffer ≡ length buffer₀) × (at .next ≤ last + 1) × Counts at
-    × (exportRun g last (budget - spent) (standing at table list buffer) ≡ exportRun g last budget (standing at₀ table₀ list₀ buffer₀))
+    × (listRun (takenBy kind g) last (budget - spent) (standing at table list buffer) ≡ listRun (takenBy kind g) last budget (standing at₀ table₀ list₀ buffer₀))
 
 abbrev μ-loop : tie.MeasureT-loop
-μ-loop table₀ list₀ buffer₀ last budget g at₀ spent₀ table list buffer at spent = budget - spent
+μ-loop table₀ list₀ buffer₀ last budget kind g at₀ spent₀ table list buffer at spent = budget - spent
 
 loop-holds : tie.Need-loop-holds Inv-loop μ-loop
-loop-holds c = (refl, refl, refl, omega (arith, c .before .before .before .pre .3), record { errors = c .before .before .before .pre .4; filled = c .before .before .before .pre .5 }, rw sub-zero)
+loop-holds c = (refl, refl, refl, c .before .before .before .pre .1, record { errors = c .before .before .before .pre .2; filled = c .before .before .before .pre .3 }, rw sub-zero)
 
 same-length : tie.Need-same-length Inv-loop μ-loop
 same-length c = c .before .before .before .loop .inv .0
@@ -38,13 +39,7 @@ step-requires c κs =
     let at-if1 = c .before .before .before .before in
     let at-loop = at-if1 .before .before in
     let start = at-loop .before .before .before .before in
-    let here = at-if1 .if1 .taken in (
-      omega (arith, here, start .pre .0, at-loop .loop .inv .1),
-      omega (arith, here, start .pre .0, start .pre .1, at-loop .loop .inv .2),
-      omega (arith, here, start .pre .2),
-      at-loop .loop .inv .4 .errors,
-      at-loop .loop .inv .4 .filled,
-    )
+    (omega (arith, at-if1 .if1 .taken, start .pre .0), at-loop .loop .inv .4 .errors, at-loop .loop .inv .4 .filled)
 
 add-spent : tie.Need-add-spent Inv-loop μ-loop
 add-spent c = search needs
@@ -59,14 +54,15 @@ loop-again c =
     let at-if1 = at-if2 .before in
     let at-loop = at-if1 .before .before in
     let here = standing (at-loop .loop .at) (at-loop .loop .table) (at-loop .loop .list) (at-loop .loop .buffer) in
-    let args = at-loop .before .before .before .before .args in (
+    let args = at-loop .before .before .before .before .args in
+    let f = takenBy (args .kind) (args .g) in (
       at-step .step .kept .0 ∙ at-loop .loop .inv .0,
       at-step .step .kept .1 .0 ∙ at-loop .loop .inv .1,
       at-step .step .kept .1 .1 .0 ∙ at-loop .loop .inv .2,
-      rw (at-step .step .ensures .0) (next-step (args .g) here (args .last) (at-if1 .if1 .taken)),
-      rw (at-step .step .ensures .0) (counts-step (args .g) here (at-loop .loop .inv .4)),
+      rw (at-step .step .ensures .0) (next-step f here (args .last) (at-if1 .if1 .taken)),
+      rw (at-step .step .ensures .0) (counts-step f here (at-loop .loop .inv .4)),
       rw (at-step .step .ensures .0, at-step .step .ensures .1 .0, at-step .step .ensures .1 .1 .0, at-step .step .ensures .1 .1 .1)
-          (sym (run-step (args .g) (args .last) (args .budget) (at-loop .loop .spent) here (at-if2 .if2 .left) (at-if1 .if1 .taken)) ∙ at-loop .loop .inv .5),
+          (sym (run-step f (args .last) (args .budget) (at-loop .loop .spent) here (at-if2 .if2 .left) (at-if1 .if1 .taken)) ∙ at-loop .loop .inv .5),
     )
 
 same-length-4 : tie.Need-same-length-4 Inv-loop μ-loop

@@ -1,0 +1,4 @@
+pub mod Kinds
+pub mod Run
+pub mod List
+pub mod Promises
