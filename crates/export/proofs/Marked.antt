@@ -2,17 +2,19 @@
 -- hold at once stands behind one that does, or is not for the line's state.
 use mathlib.Core.Path.{_≡_, refl, ap, _∙_}
 use mathlib.Core.List.{List, [], _∷_}
-use Prim.Native.Nat.{ℕ, _<_}
-use lib.ListN.{length, getD}
+use Prim.Native.Nat.{ℕ}
+use lib.Dec.{lit<}
 use lib.Seq.{getD-set-same}
 use Rattle.words.specs.Entry.{entryOf, entryWord}
-use Rattle.states.specs.States.{isStrange, isIn, numberIn}
+use Rattle.records.specs.Record.{recordOf, recordWord, plain}
+use Rattle.states.specs.States.{stateOf, isStrange, isIn, numberIn}
 use Rattle.page.specs.Page.{pageOf, tracked}
 use Rattle.page.specs.declared.PageWords.{PageWords}
 use Rattle.table.specs.Table.{wordsAt, pageAt}
 use Rattle.entry.specs.Entry.{invalid, unexportable, statusOf, answerWord, sentEntry, failedEntry, takenOf}
-use Rattle.lists.specs.Run.{standing, stepped}
-use Rattle.export.specs.Marked.{Line, markedLines, Leaves, Every, MarkedTable}
+use Rattle.session.specs.declared.Phase.the-variants.{Live}
+use Rattle.lists.specs.Run.{stepped}
+use Rattle.export.specs.Marked.{Line, second, markedLines, Leaves, Every, MarkedTable, tableOf, Found, somePage, Met}
 
 -- what an entry makes of the words of the page that the line names
 abbrev Takes : Line → Type 0
@@ -20,16 +22,12 @@ Takes x = (w : PageWords) → (entryOf (x .input) .gpa ≡ 5 → pageOf w ≡ x 
 
 step-line : (x : Line) → Takes x → Leaves x
 unfolding stepped
-step-line x f at t l b h e p =
-    getD-set-same l (at .next) _ 0 h
-    ∙ ap (λ (n : ℕ). takenOf n (wordsAt t (entryOf n .gpa)) (x .ground) .word) e
-    ∙ f (wordsAt t (entryOf (x .input) .gpa)) (λ q. ap (pageAt t) q ∙ p)
+step-line x f at t l b g =
+    getD-set-same l (at .next) _ 0 (g .inside)
+    ∙ ap (λ (n : ℕ). takenOf n (wordsAt t (entryOf n .gpa)) (x .ground) .word) (g .input)
+    ∙ f (wordsAt t (entryOf (x .input) .gpa)) (λ q. ap (pageAt t) q ∙ g .page)
 
-abbrev EachTakes : List Line → Type 0
-EachTakes [] = Unit
-EachTakes (x ∷ l) = Takes x × EachTakes l
-
-step-lines : (l : List Line) → EachTakes l → Every l
+step-lines : (l : List Line) → Every Takes l → Every Leaves l
 step-lines [] f = tt
 step-lines (x ∷ l) f = (step-line x (f .0), step-lines l (f .1))
 
@@ -37,7 +35,20 @@ pub marked-table : MarkedTable
 unfolding entryOf entryWord isStrange isIn numberIn tracked invalid unexportable statusOf answerWord sentEntry failedEntry takenOf
 marked-table =
     record {
-      lines = λ p phase tlb.
-          step-lines (markedLines p phase tlb)
+      lines = λ p phase clock.
+          step-lines (markedLines p phase clock)
           (λ w q. rw (q refl), (λ w q. rw (q refl), (λ w q. rw (q refl), (λ w q. rw (q refl), (λ w q. rw (q refl), (λ w q. rw (q refl), (λ w q. rw (q refl), (λ w q. refl, (λ w q. refl, (λ w q. refl, tt))))))))));
     }
+
+-- ---- each line is met: its page is what its words say
+
+abbrev ReadBack : Line → Type 0
+ReadBack x = pageAt (tableOf x) 5 ≡ x .page
+
+found : (l : List Line) → Every ReadBack l → Every Found l
+found [] f = tt
+found (x ∷ l) f = (record { inside = lit< tt; input = refl; page = f .0 }, found l (f .1))
+
+pub met : Met
+unfolding recordOf recordWord plain stateOf pageOf wordsAt
+met = record { found = found (markedLines somePage Live second) (refl, (refl, (refl, (refl, (refl, (refl, (refl, (refl, (refl, (refl, tt)))))))))) }

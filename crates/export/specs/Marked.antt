@@ -5,7 +5,8 @@ use mathlib.Core.List.{List, [], _∷_}
 use Prim.Native.Nat.{ℕ, _<_}
 use lib.ListN.{length, getD}
 use Rattle.states.specs.States.{State, Mapped, Pending, ExportedModified, ExportedRemoved}
-use Rattle.page.specs.Page.{Page}
+use Rattle.page.specs.Page.{Page, wordsFor}
+use Rattle.page.specs.declared.Clock.{Clock}
 use Rattle.table.specs.Table.{pageAt}
 use Rattle.session.specs.declared.Phase.{Phase}
 use Rattle.session.specs.declared.Phase.the-variants.{Live, Blackout}
@@ -36,32 +37,60 @@ abbrev pub withStamp : Page → ℕ → Page
 withStamp p stamp = record { state = p .state; dirty = p .dirty; cached = p .cached; stamp = stamp; migrated = p .migrated; mark = p .mark }
 
 -- 4,096 pages, migration epoch 1
-abbrev pub on : Phase → ℕ → Ground
-on phase tlb = record { phase = phase; clock = record { tlb = tlb }; epoch = 1; pages = 4096 }
+abbrev pub on : Phase → Clock → Ground
+on phase clock = record { phase = phase; clock = clock; epoch = 1; pages = 4096 }
+
+-- TLB epoch 2
+abbrev pub second : Clock
+second = record { tlb = 2 }
 
 -- what a line does not say is open: the page is any, with its stamp, and phase and TLB epoch are any
-abbrev pub markedLines : Page → Phase → ℕ → List Line
-markedLines p phase tlb =
-    line (withStamp (clean p Mapped) 1) (on Live 2) 0x0010000000005000 0x0010000000005000
-    ∷ line (withStamp (clean p Mapped) 2) (on Live 2) 0x0010000000005000 0x0500000000005000
-    ∷ line (withStamp (having p Mapped true 0) 1) (on Live 2) 0x0010000000005000 0x1100000000005000
-    ∷ line (clean p Pending) (on Blackout tlb) 0x0010000000005000 0x0010000000005004
-    ∷ line (clean p ExportedModified) (on Blackout tlb) 0x0010000000005000 0x0030000000005000
-    ∷ line (clean p ExportedRemoved) (on phase tlb) 0x0010000000005000 0x0020000000005000
-    ∷ line (having p Mapped false 1) (on phase tlb) 0x0010000000005000 0x0700000000005000
-    ∷ line p (on phase tlb) 0x5 0x0F00000000000001
-    ∷ line p (on phase tlb) 0x0010000005000000 0x0200000005000000
-    ∷ line p (on phase tlb) 0x5000 0x0100000000005000
+abbrev pub markedLines : Page → Phase → Clock → List Line
+markedLines p phase clock =
+    line (withStamp (clean p Mapped) 1) (on Live second) 0x0010000000005000 0x0010000000005000
+    ∷ line (withStamp (clean p Mapped) 2) (on Live second) 0x0010000000005000 0x0500000000005000
+    ∷ line (withStamp (having p Mapped true 0) 1) (on Live second) 0x0010000000005000 0x1100000000005000
+    ∷ line (clean p Pending) (on Blackout clock) 0x0010000000005000 0x0010000000005004
+    ∷ line (clean p ExportedModified) (on Blackout clock) 0x0010000000005000 0x0030000000005000
+    ∷ line (clean p ExportedRemoved) (on phase clock) 0x0010000000005000 0x0020000000005000
+    ∷ line (having p Mapped false 1) (on phase clock) 0x0010000000005000 0x0700000000005000
+    ∷ line p (on phase clock) 0x5 0x0F00000000000001
+    ∷ line p (on phase clock) 0x0010000005000000 0x0200000005000000
+    ∷ line p (on phase clock) 0x5000 0x0100000000005000
     ∷ []
 
--- of every table whose page 5 is the line's, and of every list whose next word is its input, one step of export leaves its output
+-- a table whose page 5 is the line's, and a list whose next word is its input
+pub record Given (x : Line) (at : Progress) (t l : List ℕ) : Type 0 where
+  pub inside : at .next < length l
+  pub input : getD l (at .next) 0 ≡ x .input
+  pub page : pageAt t 5 ≡ x .page
+
+-- of every such table and list one step of export leaves the line's output
 abbrev pub Leaves : Line → Type 0
 Leaves x =
-    (at : Progress) (t l b : List ℕ) → at .next < length l → getD l (at .next) 0 ≡ x .input → pageAt t 5 ≡ x .page → getD (stepped (exportStep (x .ground)) (standing at t l b) .list) (at .next) 0 ≡ x .output
+    (at : Progress) (t l b : List ℕ) → Given x at t l → getD (stepped (exportStep (x .ground)) (standing at t l b) .list) (at .next) 0 ≡ x .output
 
-abbrev pub Every : List Line → Type 0
-Every [] = Unit
-Every (x ∷ l) = Leaves x × Every l
+abbrev pub Every : (Line → Type 0) → List Line → Type 0
+Every P [] = Unit
+Every P (x ∷ l) = P x × Every P l
 
 pub record MarkedTable : Type 0 where
-  pub lines : (p : Page) (phase : Phase) (tlb : ℕ) → Every (markedLines p phase tlb)
+  pub lines : (p : Page) (phase : Phase) (clock : Clock) → Every Leaves (markedLines p phase clock)
+
+-- ---- there are such tables and lists
+
+abbrev pub atFirst : Progress
+atFirst = record { next = 0; errors = 0; filled = 0 }
+
+-- six pages, the last of them the line's
+abbrev pub tableOf : Line → List ℕ
+tableOf x = 0 ∷ 0 ∷ 0 ∷ 0 ∷ 0 ∷ 0 ∷ 0 ∷ 0 ∷ 0 ∷ 0 ∷ wordsFor (x .page) .word ∷ x .page .mark ∷ []
+
+abbrev pub Found : Line → Type 0
+Found x = Given x atFirst (tableOf x) (x .input ∷ [])
+
+abbrev pub somePage : Page
+somePage = record { state = Mapped; dirty = false; cached = true; stamp = 1; migrated = 0; mark = 7 }
+
+pub record Met : Type 0 where
+  pub found : Every Found (markedLines somePage Live second)

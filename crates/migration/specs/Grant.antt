@@ -7,8 +7,7 @@ use Prim.Native.Nat.{ℕ, _<_}
 use lib.ListN.{length}
 use Rattle.words.specs.Codes as codes
 use Rattle.states.specs.States.{Free, Exported, PendingExported}
-use Rattle.page.specs.Page.{strange, gives53, gives54}
-use Rattle.page.specs.Page.{Page}
+use Rattle.page.specs.Page.{Page, strange, gives53, gives54}
 use Rattle.table.specs.Table.{pageCount, pageAt, Lowest}
 use Rattle.session.specs.Session.{streamPlaces, workAt}
 use Rattle.session.specs.Formed.{formed}

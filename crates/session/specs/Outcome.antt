@@ -3,9 +3,8 @@ use mathlib.Core.Bool.{cond}
 use mathlib.Core.List.{List}
 use Prim.Native.Nat.{ℕ}
 use lib.Dec.{eqb}
-use Rattle.page.specs.Page.{onWords}
-use Rattle.page.specs.Page.{Page}
-use Rattle.table.specs.Table.{pageCount, sweepOf}
+use Rattle.page.specs.Page.{Page, onWords}
+use Rattle.table.specs.Table.{sweepOf}
 use Rattle.session.specs.declared.Session.{Session}
 use Rattle.session.specs.declared.Answer.{Answer}
 

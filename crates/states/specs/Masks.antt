@@ -1,8 +1,7 @@
 -- How the code holds a list of states: what only the contracts inside cite.
-use mathlib.Core.Bool.{Bool, _&&_}
+use mathlib.Core.Bool.{Bool, cond, _&&_}
 use Prim.Native.Nat.{ℕ, _*_, _/_, _%_, _^_}
 use lib.Dec.{eqb, ltb}
-use mathlib.Core.Bool.{cond}
 
 -- a mask has a bit for each number below 64
 unfoldable pub inMask : ℕ → ℕ → Bool
