@@ -11,13 +11,13 @@ use Rattle.states.proofs.Masks.{has-move}
 use Rattle.states.proofs.Laws.{strange-is, Each, goes-each}
 use Rattle.page.specs.Page.{Page, pageOf, strange}
 use Rattle.page.specs.Moves.{changesOf, writable, moveTests, movedBy}
-use Rattle.page.specs.Sweeps.{keptStamp, refreshed, sweptBy}
+use Rattle.page.specs.Sweeps.{uncached, keptStamp, refreshed, sweptBy}
 use Rattle.page.specs.declared.Clock.{Clock}
 use Rattle.page.specs.declared.PageWords.{PageWords}
 use Rattle.page.specs.declared.moves.Move.{Move}
 use Rattle.page.specs.declared.moves.Move.the-variants.{Write, Add, Accept, Block, Unblock, Remove}
 use Rattle.page.specs.declared.sweeps.Sweep.{Sweep}
-use Rattle.page.specs.declared.sweeps.Sweep.the-variants.{Uncache, Start, Abort}
+use Rattle.page.specs.declared.sweeps.Sweep.the-variants.{Track, Start, Pause, Abort}
 use Rattle.page.proofs.Laws.{Held}
 
 has : (m : Move) (n : ℕ) → n < 2 ^ 8 → not (eqb (numberBy (changesOf m) n) n) ≡ hasMove (changesOf m) (stateOf n)
@@ -100,7 +100,11 @@ abort-known : Known aborts
 unfolding isStrange
 abort-known = (refl, (refl, (refl, (refl, (refl, (refl, (refl, tt)))))))
 
+uncached-held : (p : Page) → Held p → Held (uncached p)
+uncached-held p h = record { known = h .known; stamp = h .stamp; migrated = h .migrated }
+
 pub swept-held : (k : Sweep) (p : Page) → Held p → Held (sweptBy k p)
-swept-held Uncache p h = record { known = h .known; stamp = h .stamp; migrated = h .migrated }
+swept-held Track p h = uncached-held p h
 swept-held Start p h = refreshed-held p (p .state) (h .known) h
+swept-held Pause p h = uncached-held p h
 swept-held Abort p h = refreshed-held p (goesBy aborts (p .state)) (known-by aborts abort-known (p .state) (h .known)) h

@@ -5,7 +5,7 @@ use Rattle.states.specs.States.{State, isIn, goesBy}
 use Rattle.states.specs.Lists.{stampedStates, aborts}
 use Rattle.page.specs.Page.{Page}
 use Rattle.page.specs.declared.sweeps.Sweep.{Sweep}
-use Rattle.page.specs.declared.sweeps.Sweep.the-variants.{Uncache, Start, Abort}
+use Rattle.page.specs.declared.sweeps.Sweep.the-variants.{Track, Start, Pause, Abort}
 
 -- track and pause: Cached cleared
 abbrev pub uncached : Page → Page
@@ -26,6 +26,7 @@ abbrev pub aborted : Page → Page
 aborted p = refreshed p (goesBy aborts (p .state))
 
 abbrev pub sweptBy : Sweep → Page → Page
-sweptBy Uncache p = uncached p
+sweptBy Track p = uncached p
 sweptBy Start p = started p
+sweptBy Pause p = uncached p
 sweptBy Abort p = aborted p

@@ -32,10 +32,11 @@ fn refresh(w: PageWords, to: u8) -> PageWords
     PageWords { word, mark: w.mark }
 }
 
-// A call that changes every page.
+// A call on every page.
 pub enum Sweep {
-    Uncache,
+    Track,
     Start,
+    Pause,
     Abort,
 }
 
@@ -43,8 +44,9 @@ fn swept(k: Sweep, w: PageWords, n: u8) -> PageWords
     ensures { λ r. ⌜ (strange (pageOf w) ≡ false → n ≡ numberOf (pageOf w .state) → r ≡ wordsFor (sweptBy k (pageOf w))) ⌝ }
 {
     match k {
-        Sweep::Uncache => uncache(w),
+        Sweep::Track => uncache(w),
         Sweep::Start => refresh(w, n),
+        Sweep::Pause => uncache(w),
         Sweep::Abort => refresh(w, states::abort_of(n)),
     }
 }

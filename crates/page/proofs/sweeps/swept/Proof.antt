@@ -23,6 +23,12 @@ refresh-requires c κs = search needs
 enum-told-3 : tie.Need-enum-told-3
 enum-told-3 c = search needs
 
+uncache-requires-2 : tie.Need-uncache-requires-2
+uncache-requires-2 c κs = search needs
+
+enum-told-4 : tie.Need-enum-told-4
+enum-told-4 c = search needs
+
 abort-of-requires : tie.Need-abort-of-requires
 abort-of-requires c κs = search needs
 
@@ -36,7 +42,10 @@ returns-2 : tie.Need-returns-2
 returns-2 c = λ e q. rw (c .before .enum-told2 .given .1) (c .refresh .ensures (pageOf (c .before .before .before .args .w) .state) e q)
 
 returns-3 : tie.Need-returns-3
-returns-3 c = λ e q. rw (c .before .before .enum-told3 .given .1) (let z = pageOf (c .before .before .before .before .args .w) .state in c .refresh2 .ensures (goesBy aborts z) e (c .before .abort-of .ensures ∙ ap (numberBy aborts) q ∙ number-by aborts z))
+returns-3 c = λ e q. rw (c .before .enum-told3 .given .1) (c .uncache2 .ensures e)
+
+returns-4 : tie.Need-returns-4
+returns-4 c = λ e q. rw (c .before .before .enum-told4 .given .1) (let z = pageOf (c .before .before .before .before .args .w) .state in c .refresh2 .ensures (goesBy aborts z) e (c .before .abort-of .ensures ∙ ap (numberBy aborts) q ∙ number-by aborts z))
 
 pub swept-spec : {M : Type 1} → statement M
-swept-spec = tie.close (tie.spec enum-told uncache-requires enum-told-2 refresh-requires enum-told-3 abort-of-requires refresh-requires-2 returns returns-2 returns-3)
+swept-spec = tie.close (tie.spec enum-told uncache-requires enum-told-2 refresh-requires enum-told-3 uncache-requires-2 enum-told-4 abort-of-requires refresh-requires-2 returns returns-2 returns-3 returns-4)
