@@ -19,26 +19,17 @@ use Rattle.page.proofs.MoveLaws.{done-known, moved-held}
 use Rattle.table.specs.Table.{wordsAt, pageAt, putAt}
 use Rattle.table.proofs.Laws.{put-other, page-put}
 use Rattle.session.specs.Session.{among, guest}
-use Rattle.session.specs.Formed.{formed, lastEpoch}
+use Rattle.session.specs.Formed.{formed}
 use Rattle.session.specs.Outcome.{Outcome, outcome, answered}
 use Rattle.session.specs.declared.Session.{Session}
-use Rattle.session.proofs.Laws.{gate-open, answered-either}
+use Rattle.session.proofs.Laws.{answered-either}
 use Rattle.session.proofs.FormedLaws.{formed-means, tlb-fits}
-use Rattle.memory.specs.Memory.{newAnswer, newOut, pageTests, pageTurn, onPage, trackTests, trackCode, trackAnswer, trackOut}
+use Rattle.memory.specs.Memory.{newAnswer, newOut, pageTests, pageTurn, onPage}
 
--- what New and track answer, of any table of that length
+-- what New answers, of any table of that length
 pub new-answer : (s : Session) (len : ℕ) (t : List ℕ) (created : ℕ) → length t ≡ len → newAnswer s len created ≡ newOut s t created .answer
 unfolding newAnswer newOut answered
 new-answer s len t created e = rw (← e)
-
-pub track-answer : (s : Session) (len : ℕ) (t : List ℕ) → length t ≡ len → trackAnswer s len ≡ trackOut s t .answer
-unfolding trackAnswer trackOut answered
-track-answer s len t e = rw (← e)
-
-pub track-room : (s : Session) (len : ℕ) → trackCode s len ≡ 0 → s .clock .tlb < lastEpoch
-unfolding trackCode
-track-room s len e =
-    leb-false lastEpoch (s .clock .tlb) (gate-open s len guest (trackTests s) refl e .passed .0)
 
 -- ---- a call on one page that is done
 

@@ -1,21 +1,20 @@
--- The guest and memory calls, in document 01's order.
+-- New, and the calls on one page.
 use mathlib.Core.Bool.{Bool, true, false, not, _&&_}
 use mathlib.Core.List.{List, [], _∷_}
-use Prim.Native.Nat.{ℕ, _+_, _/_}
+use Prim.Native.Nat.{ℕ, _/_}
 use lib.Dec.{leb}
 use lib.ListN.{length, replicate}
 use Rattle.words.specs.Codes as codes
 use Rattle.refusals.specs.Refusals.{Test, _gives_, firstOf}
 use Rattle.page.specs.Page.{Page, pageOf, onWords}
 use Rattle.page.specs.Moves.{moveTests, movedBy}
-use Rattle.page.specs.Sweeps.{uncached}
 use Rattle.page.specs.declared.PageWords.{PageWords}
 use Rattle.page.specs.declared.moves.Move.{Move}
 use Rattle.page.specs.declared.moves.Move.the-variants.{Write, Add, Accept, Block, Unblock, Remove}
 use Rattle.table.specs.Table.{legal, pageCount, wordsAt, pageAt, putAt}
-use Rattle.session.specs.Session.{among, guest, newSession, ticked, withClock}
-use Rattle.session.specs.Formed.{formed, gated, within, fewestCreated, mostCreated, lastEpoch}
-use Rattle.session.specs.Outcome.{Outcome, answerFor, answered, answeredBy}
+use Rattle.session.specs.Session.{among, guest, newSession}
+use Rattle.session.specs.Formed.{formed, within, fewestCreated, mostCreated}
+use Rattle.session.specs.Outcome.{Outcome, answerFor, answered}
 use Rattle.session.specs.declared.Phase.the-variants.{Blackout}
 use Rattle.session.specs.declared.Session.{Session}
 use Rattle.session.specs.declared.Answer.{Answer}
@@ -63,38 +62,3 @@ onPage m s t at =
 -- the same on the page's two words: the code, and the words if it is 0
 unfoldable pub pageTurn : Move → Session → ℕ → ℕ → PageWords → Turn
 pageTurn m s len at w = record { code = firstOf (pageTests m s len at (pageOf w)); words = onWords (movedBy m (s .clock)) w }
-
-unfoldable pub writeOut : Session → List ℕ → ℕ → ℕ → Outcome
-writeOut s t at mark = onPage (Write mark) s t at
-
-unfoldable pub addOut : Session → List ℕ → ℕ → Outcome
-addOut s t at = onPage Add s t at
-
-unfoldable pub acceptOut : Session → List ℕ → ℕ → Outcome
-acceptOut s t at = onPage Accept s t at
-
-unfoldable pub blockOut : Session → List ℕ → ℕ → Outcome
-blockOut s t at = onPage Block s t at
-
-unfoldable pub unblockOut : Session → List ℕ → ℕ → Outcome
-unblockOut s t at = onPage Unblock s t at
-
-unfoldable pub removeOut : Session → List ℕ → ℕ → Outcome
-removeOut s t at = onPage Remove s t at
-
--- ---- track
-
--- 56 at the limit
-abbrev pub trackTests : Session → List Test
-trackTests s = leb lastEpoch (s .clock .tlb) gives codes.tlbEpochAtLimit ∷ []
-
-unfoldable pub trackCode : Session → ℕ → ℕ
-trackCode s len = gated s len guest (trackTests s)
-
--- TLB epoch plus one
-unfoldable pub trackAnswer : Session → ℕ → Answer
-trackAnswer s len = answerFor (trackCode s len) s (withClock s (ticked (s .clock)))
-
--- and every Cached bit cleared
-unfoldable pub trackOut : Session → List ℕ → Outcome
-trackOut s t = answeredBy uncached (trackCode s (length t)) s (withClock s (ticked (s .clock))) t

@@ -2,70 +2,69 @@
 use mathlib.Core.Path.{_≡_, refl, ap}
 use mathlib.Core.Bool.{Bool, true, false, cond, not, _||_}
 use mathlib.Core.List.{List, [], _∷_}
-use Prim.Native.Nat.{ℕ, _+_, _≤_, _<_}
+use Prim.Native.Nat.{ℕ, _≤_}
 use lib.Dec.{eqb, ltb}
 use lib.ListN.{length}
-use borrow.Author.Tests.{leb-false, eqb-true, ltb-false}
+use borrow.Author.Tests.{eqb-true, ltb-false}
 use Rattle.words.specs.Codes as codes
 use Rattle.refusals.specs.Refusals.{Test, _gives_, firstOf}
-use Rattle.refusals.proofs.Laws.{not-true, first-all}
-use Rattle.page.specs.Page.{unstartable, blocked, gives53, gives54, sought}
-use Rattle.page.specs.declared.queries.Sought.the-variants.{Blocked, Unstartable}
+use Rattle.refusals.proofs.Laws.{coded, not-true, first-all}
+use Rattle.page.specs.Page.{gives53, gives54}
+use Rattle.page.specs.declared.sweeps.Sweep.{Sweep}
+use Rattle.page.specs.declared.sweeps.Sweep.the-variants.{Track, Start, Pause, Abort}
 use Rattle.table.specs.Table.{pageCount, lowest, some}
-use Rattle.session.specs.Session.{phasesOf, moving, unchecked, begun, withPhase, withEpoch, withCheck}
-use Rattle.session.specs.Formed.{gateTests, gated, behind, lastEpoch}
+use Rattle.session.specs.Session.{phasesOf}
+use Rattle.session.specs.Formed.{gateTests, gated, behind}
 use Rattle.session.specs.Outcome.{answerFor, answered}
 use Rattle.session.specs.declared.When.the-variants as when
-use Rattle.session.specs.declared.Phase.the-variants.{Live, Blackout}
 use Rattle.session.specs.declared.Session.{Session}
-use Rattle.session.proofs.Laws.{first-then, behind-gate, gate-open, table-kept}
-use Rattle.migration.specs.Migration.{startTests, startCode, startOut, startAnswer, pauseTests, pauseCode, pauseOut, pauseAnswer}
-use Rattle.migration.specs.Migration.{abortAnswer, abortOut, newEpochTests, newEpochCode, newEpochAnswer, newEpochOut, resetCode, resetAnswer, resetOut}
+use Rattle.session.proofs.Laws.{Open, first-then, behind-gate, gate-open, table-kept}
+use Rattle.migration.specs.Migration.{sweepWhen, stopsAt, stopped, sweepTests, sweepNext, sweepCode, sweepAnswer, onAll}
+use Rattle.migration.specs.Migration.{aloneWhen, aloneTests, aloneNext, aloneCode, aloneAnswer, onSession}
 use Rattle.migration.specs.Token.{TokenNumbers, tokenSays, tokenGate, tokenCode, inTheWay, tokenFor, tokenOut, tokenAnswer}
+use Rattle.migration.specs.declared.Alone.{Alone}
+use Rattle.migration.specs.declared.Alone.the-variants.{NewEpoch, Reset}
 use Rattle.migration.specs.declared.token.Token.the-variants.{Granted, Refused, InTheWay}
 
-pub epoch-room : (s : Session) (len : ℕ) → newEpochCode s len ≡ 0 → s .epoch < lastEpoch
-unfolding newEpochCode
-epoch-room s len e =
-    leb-false lastEpoch (s .epoch)
-    (gate-open s len moving (newEpochTests s) refl e .passed .1 .0)
+-- ---- the calls on every page
 
--- a new epoch and a reset leave the table
-pub new-epoch-table : (s : Session) (t : List ℕ) → newEpochOut s t .table ≡ t
-unfolding newEpochOut
-new-epoch-table s t = table-kept (newEpochCode s (length t)) s (withEpoch s (s .epoch + 1)) t
+-- their tests have codes of their own
+pub sweeps-coded : (k : Sweep) (s : Session) (stops : Bool) → coded (sweepTests k s stops) ≡ true
+sweeps-coded Track s stops = refl
+sweeps-coded Start s stops = refl
+sweeps-coded Pause s stops = refl
+sweeps-coded Abort s stops = refl
 
-pub reset-table : (s : Session) (t : List ℕ) → resetOut s t .table ≡ t
-unfolding resetOut
-reset-table s t = table-kept (resetCode s (length t)) s (withCheck s unchecked) t
+-- one that is done has passed its gate and its tests
+pub sweep-open : (k : Sweep) (s : Session) (t : List ℕ) → sweepCode k s t ≡ 0 → Open s (length t) (phasesOf (sweepWhen k)) (sweepTests k s (stopped (stopsAt k) t))
+unfolding sweepCode
+sweep-open k s t e = gate-open s (length t) (phasesOf (sweepWhen k)) (sweepTests k s _) (sweeps-coded k s _) e
 
--- ---- answers from what is told
+-- what it answers from what it is told: the table is asked for only where the gate is passed
+pub sweep-answer : (k : Sweep) (s : Session) (t : List ℕ) (gate : ℕ) (stops : Bool) → gate ≡ gated s (length t) (phasesOf (sweepWhen k)) [] → (gate ≡ 0 → stops ≡ stopped (stopsAt k) t) → sweepAnswer k s gate stops ≡ onAll k s t .answer
+unfolding sweepAnswer onAll sweepCode answered
+sweep-answer k s t gate stops e f =
+    ap (λ (code : ℕ). answerFor code s (sweepNext k s))
+    (behind-gate s (length t) (phasesOf (sweepWhen k)) (sweepTests k s stops) (sweepTests k s (stopped (stopsAt k) t)) gate e (λ z. ap (λ (b : Bool). firstOf (sweepTests k s b)) (f z)))
 
-module _ (s : Session) (t : List ℕ) (gate : ℕ) where
-  pub start-answer : (stops : Bool) → gate ≡ gated s (length t) (phasesOf when.Idle) [] → (gate ≡ 0 → stops ≡ some (sought Unstartable) t) → startAnswer s gate stops ≡ startOut s t .answer
-  unfolding startAnswer startOut startCode answered
-  start-answer stops e f =
-      ap (λ (code : ℕ). answerFor code s (begun s Live 1))
-      (behind-gate s (length t) (phasesOf when.Idle) (startTests stops) (startTests (some unstartable t)) gate e (λ z. ap (λ (b : Bool). firstOf (startTests b)) (f z)))
+-- ---- the calls on the session alone
 
-  pub pause-answer : (stops : Bool) → gate ≡ gated s (length t) (phasesOf when.Live) [] → (gate ≡ 0 → stops ≡ some (sought Blocked) t) → pauseAnswer s gate stops ≡ pauseOut s t .answer
-  unfolding pauseAnswer pauseOut pauseCode answered
-  pause-answer stops e f =
-      ap (λ (code : ℕ). answerFor code s (withPhase s Blackout))
-      (behind-gate s (length t) (phasesOf when.Live) (pauseTests s stops) (pauseTests s (some blocked t)) gate e (λ z. ap (λ (b : Bool). firstOf (pauseTests s b)) (f z)))
+pub alones-coded : (k : Alone) (s : Session) → coded (aloneTests k s) ≡ true
+alones-coded NewEpoch s = refl
+alones-coded Reset s = refl
 
-module _ (s : Session) (len : ℕ) (t : List ℕ) (e : length t ≡ len) where
-  pub abort-answer : abortAnswer s len ≡ abortOut s t .answer
-  unfolding abortAnswer abortOut answered
-  abort-answer = rw (← e)
+pub alone-open : (k : Alone) (s : Session) (len : ℕ) → aloneCode k s len ≡ 0 → Open s len (phasesOf (aloneWhen k)) (aloneTests k s)
+unfolding aloneCode
+alone-open k s len e = gate-open s len (phasesOf (aloneWhen k)) (aloneTests k s) (alones-coded k s) e
 
-  pub new-epoch-answer : newEpochAnswer s len ≡ newEpochOut s t .answer
-  unfolding newEpochAnswer newEpochOut answered
-  new-epoch-answer = rw (← e)
+pub alone-answer : (k : Alone) (s : Session) (len : ℕ) (t : List ℕ) → length t ≡ len → aloneAnswer k s len ≡ onSession k s t .answer
+unfolding aloneAnswer onSession answered
+alone-answer k s len t e = rw (← e)
 
-  pub reset-answer : resetAnswer s len ≡ resetOut s t .answer
-  unfolding resetAnswer resetOut answered
-  reset-answer = rw (← e)
+-- they leave the table
+pub alone-table : (k : Alone) (s : Session) (t : List ℕ) → onSession k s t .table ≡ t
+unfolding onSession
+alone-table k s t = table-kept (aloneCode k s (length t)) s (aloneNext k s) t
 
 -- ---- the token
 

@@ -1,87 +1,99 @@
--- The session calls but the start token, in document 01's order, and the scans' reset.
-use mathlib.Core.Bool.{Bool}
+-- The calls on every page and those on the session alone, each in document 01's order.
+use mathlib.Core.Bool.{Bool, false}
 use mathlib.Core.List.{List, [], _∷_}
 use Prim.Native.Nat.{ℕ, _+_}
 use lib.Dec.{leb}
 use lib.ListN.{length}
 use Rattle.words.specs.Codes as codes
 use Rattle.refusals.specs.Refusals.{Test, _gives_}
-use Rattle.page.specs.Page.{unstartable, blocked}
-use Rattle.page.specs.Sweeps.{uncached, started, aborted}
+use Rattle.page.specs.Page.{sought}
+use Rattle.page.specs.Sweeps.{sweptBy}
+use Rattle.page.specs.declared.queries.Sought.the-variants.{Unstartable, Blocked}
+use Rattle.page.specs.declared.sweeps.Sweep.{Sweep}
+use Rattle.page.specs.declared.sweeps.Sweep.the-variants.{Track, Start, Pause, Abort}
 use Rattle.table.specs.Table.{some}
-use Rattle.session.specs.Session.{moving, unchecked, begun, withPhase, withEpoch, withCheck}
+use Rattle.session.specs.Session.{phasesOf, unchecked, ticked, begun, withPhase, withEpoch, withClock, withCheck}
 use Rattle.session.specs.Formed.{gated, behind, busy, lastEpoch}
 use Rattle.session.specs.Outcome.{Outcome, answerFor, answered, answeredBy}
 use Rattle.session.specs.declared.Phase.the-variants.{Idle, Live, Blackout}
+use Rattle.session.specs.declared.When.{When}
+use Rattle.session.specs.declared.When.the-variants as when
 use Rattle.session.specs.declared.Session.{Session}
 use Rattle.session.specs.declared.Answer.{Answer}
+use Rattle.migration.specs.declared.Stops.{Stops}
+use Rattle.migration.specs.declared.Stops.the-variants.{Never, At}
+use Rattle.migration.specs.declared.Alone.{Alone}
+use Rattle.migration.specs.declared.Alone.the-variants.{NewEpoch, Reset}
 
--- ---- start
+-- ---- the calls on every page: track, start, pause, abort
 
--- any state outside 0 to 4, or strange, is 45
-abbrev pub startTests : Bool → List Test
-startTests stops = stops gives codes.eptEntryStateIncorrect ∷ []
+-- the phases in which each comes
+abbrev pub sweepWhen : Sweep → When
+sweepWhen Track = when.Guest
+sweepWhen Start = when.Idle
+sweepWhen Pause = when.Live
+sweepWhen Abort = when.Moving
 
-unfoldable pub startCode : Session → List ℕ → ℕ
-startCode s t = gated s (length t) (Idle ∷ []) (startTests (some unstartable t))
+-- start: any state outside 0 to 4, or strange; pause: any of 1, 3, 26, 31
+abbrev pub stopsAt : Sweep → Stops
+stopsAt Track = Never
+stopsAt Start = At Unstartable
+stopsAt Pause = At Blocked
+stopsAt Abort = Never
 
--- Live, migration epoch 1, every page's migration epoch 0, stamp 0 except in 1 and 3, check reset, streams at rest
-unfoldable pub startOut : Session → List ℕ → Outcome
-startOut s t = answeredBy started (startCode s t) s (begun s Live 1) t
+abbrev pub stopped : Stops → List ℕ → Bool
+stopped Never t = false
+stopped (At kind) t = some (sought kind) t
 
--- what it answers, told its gate's code and whether some page stops it
-unfoldable pub startAnswer : Session → ℕ → Bool → Answer
-startAnswer s gate stops = answerFor (behind gate (startTests stops)) s (begun s Live 1)
+-- track: 56 at the limit; start: 45 where a page stops it; pause: 48 where one does, then 43
+abbrev pub sweepTests : Sweep → Session → Bool → List Test
+sweepTests Track s stops = leb lastEpoch (s .clock .tlb) gives codes.tlbEpochAtLimit ∷ []
+sweepTests Start s stops = stops gives codes.eptEntryStateIncorrect ∷ []
+sweepTests Pause s stops = stops gives codes.blockedMemoryExists ∷ busy s gives codes.operandBusy ∷ []
+sweepTests Abort s stops = []
 
--- ---- pause
+-- track: TLB epoch plus one; start: Live, migration epoch 1, check reset, streams at rest; pause: Blackout;
+-- abort: Idle, the session's migration epoch 0, streams at rest, check reset
+abbrev pub sweepNext : Sweep → Session → Session
+sweepNext Track s = withClock s (ticked (s .clock))
+sweepNext Start s = begun s Live 1
+sweepNext Pause s = withPhase s Blackout
+sweepNext Abort s = begun s Idle 0
 
--- any of 1, 3, 26, 31 is 48; 43
-abbrev pub pauseTests : Session → Bool → List Test
-pauseTests s blocked = blocked gives codes.blockedMemoryExists ∷ busy s gives codes.operandBusy ∷ []
+unfoldable pub sweepCode : Sweep → Session → List ℕ → ℕ
+sweepCode k s t = gated s (length t) (phasesOf (sweepWhen k)) (sweepTests k s (stopped (stopsAt k) t))
 
-unfoldable pub pauseCode : Session → List ℕ → ℕ
-pauseCode s t = gated s (length t) (Live ∷ []) (pauseTests s (some blocked t))
+-- and every page swept
+unfoldable pub onAll : Sweep → Session → List ℕ → Outcome
+onAll k s t = answeredBy (sweptBy k) (sweepCode k s t) s (sweepNext k s) t
 
--- Blackout, every Cached cleared
-unfoldable pub pauseOut : Session → List ℕ → Outcome
-pauseOut s t = answeredBy uncached (pauseCode s t) s (withPhase s Blackout) t
+-- what it answers, told its gate's code and whether a page stops it
+unfoldable pub sweepAnswer : Sweep → Session → ℕ → Bool → Answer
+sweepAnswer k s gate stops = answerFor (behind gate (sweepTests k s stops)) s (sweepNext k s)
 
--- what it answers, told its gate's code and whether some page is blocked
-unfoldable pub pauseAnswer : Session → ℕ → Bool → Answer
-pauseAnswer s gate blocked = answerFor (behind gate (pauseTests s blocked)) s (withPhase s Blackout)
+-- ---- the calls on the session alone: new epoch, reset
 
--- ---- abort, new epoch and reset, whose answers ask of the table its length alone
+abbrev pub aloneWhen : Alone → When
+aloneWhen NewEpoch = when.Moving
+aloneWhen Reset = when.Moving
 
-unfoldable pub abortCode : Session → ℕ → ℕ
-abortCode s len = gated s len moving []
+-- new epoch: 43, 55
+abbrev pub aloneTests : Alone → Session → List Test
+aloneTests NewEpoch s = busy s gives codes.operandBusy ∷ leb lastEpoch (s .epoch) gives codes.migrationEpochOverflow ∷ []
+aloneTests Reset s = []
 
--- Idle, the session's migration epoch 0, streams at rest, check reset
-unfoldable pub abortAnswer : Session → ℕ → Answer
-abortAnswer s len = answerFor (abortCode s len) s (begun s Idle 0)
+-- new epoch: plus one; reset: page 0, neither complete nor failed
+abbrev pub aloneNext : Alone → Session → Session
+aloneNext NewEpoch s = withEpoch s (s .epoch + 1)
+aloneNext Reset s = withCheck s unchecked
 
-unfoldable pub abortOut : Session → List ℕ → Outcome
-abortOut s t = answeredBy aborted (abortCode s (length t)) s (begun s Idle 0) t
+unfoldable pub aloneCode : Alone → Session → ℕ → ℕ
+aloneCode k s len = gated s len (phasesOf (aloneWhen k)) (aloneTests k s)
 
--- 43, 55
-abbrev pub newEpochTests : Session → List Test
-newEpochTests s = busy s gives codes.operandBusy ∷ leb lastEpoch (s .epoch) gives codes.migrationEpochOverflow ∷ []
+-- the answer asks of the table its length alone
+unfoldable pub aloneAnswer : Alone → Session → ℕ → Answer
+aloneAnswer k s len = answerFor (aloneCode k s len) s (aloneNext k s)
 
-unfoldable pub newEpochCode : Session → ℕ → ℕ
-newEpochCode s len = gated s len moving (newEpochTests s)
-
--- plus one
-unfoldable pub newEpochAnswer : Session → ℕ → Answer
-newEpochAnswer s len = answerFor (newEpochCode s len) s (withEpoch s (s .epoch + 1))
-
-unfoldable pub newEpochOut : Session → List ℕ → Outcome
-newEpochOut s t = answered (newEpochCode s (length t)) s t (withEpoch s (s .epoch + 1)) t
-
-unfoldable pub resetCode : Session → ℕ → ℕ
-resetCode s len = gated s len moving []
-
--- page 0, neither complete nor failed
-unfoldable pub resetAnswer : Session → ℕ → Answer
-resetAnswer s len = answerFor (resetCode s len) s (withCheck s unchecked)
-
-unfoldable pub resetOut : Session → List ℕ → Outcome
-resetOut s t = answered (resetCode s (length t)) s t (withCheck s unchecked) t
+-- and the table stays
+unfoldable pub onSession : Alone → Session → List ℕ → Outcome
+onSession k s t = answered (aloneCode k s (length t)) s t (aloneNext k s) t
