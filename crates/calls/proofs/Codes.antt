@@ -1,30 +1,33 @@
 -- Every code is one of a list of tests, or one that a scan or an export which ran gives, and all of these are document 01's.
 use mathlib.Core.Path.{_≡_, refl, ap, _∙_}
-use mathlib.Core.Bool.{true, not}
+use mathlib.Core.Bool.{Bool, true, not}
 use mathlib.Core.List.{List, [], _∷_}
-use Prim.Native.Nat.{ℕ, _+_, _-_}
+use Prim.Native.Nat.{ℕ, _-_}
 use lib.ListN.{length, replicate}
 use Rattle.words.specs.Codes as codes
 use Rattle.words.specs.Info.{infoOf}
 use Rattle.refusals.specs.Refusals.{Test, _gives_}
 use Rattle.refusals.proofs.Laws.{allCodes, first-all}
-use Rattle.page.specs.Page.{Page, onWords}
+use Rattle.page.specs.Page.{Page}
 use Rattle.page.specs.Moves.{moveTests}
-use Rattle.page.specs.Sweeps.{uncached, started, aborted}
 use Rattle.page.specs.declared.Clock.{Clock}
 use Rattle.page.specs.declared.moves.Move.{Move}
 use Rattle.page.specs.declared.moves.Move.the-variants as move
-use Rattle.table.specs.Table.{legal, pageCount, pageAt, sweepOf}
-use Rattle.session.specs.Session.{guest, moving, newSession, ticked, withClock, withEpoch, withPhase, withCheck, unchecked, begun}
+use Rattle.page.specs.declared.sweeps.Sweep.{Sweep}
+use Rattle.page.specs.declared.sweeps.Sweep.the-variants as sweep
+use Rattle.table.specs.Table.{legal, pageCount, pageAt}
+use Rattle.session.specs.Session.{moving, phasesOf, newSession}
 use Rattle.session.specs.Formed.{within, fewestCreated, mostCreated, gateTests, gated}
-use Rattle.session.specs.Outcome.{Outcome, answered, answeredBy}
+use Rattle.session.specs.Outcome.{Outcome, answered}
 use Rattle.session.proofs.Laws.{answered-either}
 use Rattle.session.specs.declared.Session.{Session}
 use Rattle.session.specs.declared.Phase.{Phase}
 use Rattle.session.specs.declared.Phase.the-variants as phase
-use Rattle.memory.specs.Memory.{newCode, newOut, pageTests, onPage, writeOut, addOut, acceptOut, blockOut, unblockOut, removeOut, trackTests, trackCode, trackOut}
+use Rattle.memory.specs.Memory.{newCode, newOut, pageTests, onPage}
 use Rattle.memory.proofs.Laws.{page-code}
-use Rattle.migration.specs.Migration.{startCode, startOut, pauseCode, pauseOut, abortCode, abortOut, newEpochTests, newEpochCode, newEpochOut, resetCode, resetOut}
+use Rattle.migration.specs.Migration.{sweepWhen, sweepTests, sweepCode, onAll, aloneWhen, aloneTests, aloneCode, onSession}
+use Rattle.migration.specs.declared.Alone.{Alone}
+use Rattle.migration.specs.declared.Alone.the-variants as alone
 use Rattle.migration.specs.Token.{tokenTests, tokenCode, tokenOut}
 use Rattle.migration.proofs.Laws.{token-number}
 use Rattle.scan.specs.Scan.{ScanOutcome, dscanTests, dscanCode, dscanOf, dcheckTests, dcheckCode, dcheckOf, checkedBy}
@@ -34,7 +37,7 @@ use Rattle.export.proofs.Moves.{exported, export-either, finished-code}
 use Rattle.calls.specs.Calls.{effectOf}
 use Rattle.calls.specs.Promises.{named, AnswersNamed}
 use Rattle.calls.specs.declared.Call.{Call}
-use Rattle.calls.specs.declared.Call.the-variants.{New, Write, Add, Accept, Block, Unblock, Remove, Track, Start, Pause, Abort, NewEpoch, Reset, StartToken, Dscan, Dcheck, Export}
+use Rattle.calls.specs.declared.Call.the-variants.{New, OnPage, OnAll, OnSession, StartToken, Dscan, Dcheck, Export}
 
 -- behind the gate, the codes of a call's own tests
 gated-named : (s : Session) (len : ℕ) (phases : List Phase) (l : List Test) → allCodes named l ≡ true → named (gated s len phases l) ≡ true
@@ -44,9 +47,6 @@ gated-named s len phases l e = first-all named (gateTests s len phases l) refl e
 answered-named : (code : ℕ) (s : Session) (t : List ℕ) (s' : Session) (t' : List ℕ) → named code ≡ true → named (answered code s t s' t' .answer .code) ≡ true
 answered-named code s t s' t' h =
     answered-either (λ (o : Outcome). named (o .answer .code) ≡ true) code s t s' t' (λ e. h) (λ e. h)
-
-all-named : (f : Page → Page) (code : ℕ) (s s' : Session) (t : List ℕ) → named code ≡ true → named (answeredBy f code s s' t .answer .code) ≡ true
-all-named f code s s' t h = answered-named code s t s' (sweepOf (onWords f) t) h
 
 moves-named : (m : Move) (p : Page) (clock : Clock) → allCodes named (moveTests m p clock) ≡ true
 moves-named (move.Write mark) p clock = refl
@@ -60,26 +60,37 @@ page-named : (m : Move) (s : Session) (t : List ℕ) (at : ℕ) → named (onPag
 page-named m s t at =
     rw (page-code m s t at) (first-all named (pageTests m s (length t) at (pageAt t at)) refl (moves-named m (pageAt t at) (s .clock)))
 
+sweeps-named : (k : Sweep) (s : Session) (stops : Bool) → allCodes named (sweepTests k s stops) ≡ true
+sweeps-named sweep.Track s stops = refl
+sweeps-named sweep.Start s stops = refl
+sweeps-named sweep.Pause s stops = refl
+sweeps-named sweep.Abort s stops = refl
+
+all-named : (k : Sweep) (s : Session) (t : List ℕ) → named (onAll k s t .answer .code) ≡ true
+unfolding onAll sweepCode
+all-named k s t =
+    answered-named (sweepCode k s t) s t _ _ (gated-named s (length t) (phasesOf (sweepWhen k)) (sweepTests k s _) (sweeps-named k s _))
+
+alones-named : (k : Alone) (s : Session) → allCodes named (aloneTests k s) ≡ true
+alones-named alone.NewEpoch s = refl
+alones-named alone.Reset s = refl
+
+session-named : (k : Alone) (s : Session) (t : List ℕ) → named (onSession k s t .answer .code) ≡ true
+unfolding onSession aloneCode
+session-named k s t =
+    answered-named (aloneCode k s (length t)) s t _ t (gated-named s (length t) (phasesOf (aloneWhen k)) (aloneTests k s) (alones-named k s))
+
 scans-named : OfScans named
 scans-named = record { done = refl; interrupted = refl; full = refl; complete = refl; blocked = refl }
 
 module _ (s : Session) (t l b : List ℕ) where
   code-named : (c : Call) → named (effectOf c s t l b .returned .code) ≡ true
-  unfolding newOut newCode writeOut addOut acceptOut blockOut unblockOut removeOut trackOut trackCode startOut startCode pauseOut pauseCode abortOut abortCode newEpochOut newEpochCode resetOut resetCode tokenOut tokenCode dscanCode dcheckCode exportCode
+  unfolding newOut newCode tokenOut tokenCode dscanCode dcheckCode exportCode
   code-named (New created) =
       answered-named (newCode (length t) created) s t (newSession (pageCount t) created) (replicate (length t) 0) (first-all named (not (legal (length t)) gives codes.malformed ∷ not (within fewestCreated mostCreated created) gives codes.operandInvalid ∷ []) refl refl)
-  code-named (Write page mark) = page-named (move.Write mark) s t page
-  code-named (Add page) = page-named move.Add s t page
-  code-named (Accept page) = page-named move.Accept s t page
-  code-named (Block page) = page-named move.Block s t page
-  code-named (Unblock page) = page-named move.Unblock s t page
-  code-named (Remove page) = page-named move.Remove s t page
-  code-named Track = all-named uncached (trackCode s (length t)) s (withClock s (ticked (s .clock))) t (gated-named s (length t) guest (trackTests s) refl)
-  code-named Start = all-named started (startCode s t) s (begun s phase.Live 1) t (gated-named s (length t) (phase.Idle ∷ []) _ refl)
-  code-named Pause = all-named uncached (pauseCode s t) s (withPhase s phase.Blackout) t (gated-named s (length t) (phase.Live ∷ []) _ refl)
-  code-named Abort = all-named aborted (abortCode s (length t)) s (begun s phase.Idle 0) t (gated-named s (length t) moving [] refl)
-  code-named NewEpoch = answered-named (newEpochCode s (length t)) s t (withEpoch s (s .epoch + 1)) t (gated-named s (length t) moving (newEpochTests s) refl)
-  code-named Reset = answered-named (resetCode s (length t)) s t (withCheck s unchecked) t (gated-named s (length t) moving [] refl)
+  code-named (OnPage page m) = page-named m s t page
+  code-named (OnAll k) = all-named k s t
+  code-named (OnSession k) = session-named k s t
   code-named StartToken = ap named (token-number (tokenCode s t) t) ∙ gated-named s (length t) (phase.Blackout ∷ []) (tokenTests s t) refl
   code-named (Dscan first count budget) =
       dscan-either s t l first count budget (λ (o : ScanOutcome). named (o .answer .code) ≡ true)

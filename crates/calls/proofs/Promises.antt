@@ -3,7 +3,7 @@
 use mathlib.Core.Path.{_≡_, refl, sym, ap, _∙_}
 use mathlib.Core.Bool.{Bool, true, false, cond, not, true≢false, false≢true}
 use mathlib.Core.List.{List}
-use Prim.Native.Nat.{ℕ, _+_, _-_, _<_}
+use Prim.Native.Nat.{ℕ, _-_, _<_}
 use lib.Dec.{eqb, ltb}
 use lib.ListN.{length, replicate}
 use borrow.Author.Tests.{eqb-true, eqb-false, ltb-true, ltb-false}
@@ -12,24 +12,23 @@ use Rattle.words.specs.Info.{infoOf}
 use Rattle.refusals.proofs.Laws.{not-true}
 use Rattle.page.specs.Page.{Page, strange, onWords, unlessStrange}
 use Rattle.page.specs.Moves.{movedBy}
-use Rattle.page.specs.Sweeps.{uncached, started, aborted, sweptBy}
+use Rattle.page.specs.Sweeps.{sweptBy}
 use Rattle.page.specs.declared.sweeps.Sweep.{Sweep}
 use Rattle.page.proofs.Laws.{words-stay}
 use Rattle.page.proofs.MoveLaws.{swept-held}
 use Rattle.page.specs.declared.moves.Move.{Move}
-use Rattle.page.specs.declared.moves.Move.the-variants as move
 use Rattle.table.specs.Table.{pageCount, wordsAt, pageAt, putAt, sweepOf}
 use Rattle.table.proofs.Laws.{put-other, put-back, sweep-at, sweep-past, page-swept}
-use Rattle.session.specs.Session.{newSession, ticked, withClock, withEpoch, withPhase, withCheck, unchecked, begun}
+use Rattle.session.specs.Session.{newSession, withPhase}
 use Rattle.session.specs.Outcome.{Outcome, answered, answeredBy}
 use Rattle.session.proofs.Laws.{answered-either, answered-words}
 use Rattle.session.specs.declared.Session.{Session}
 use Rattle.session.specs.declared.Phase.the-variants as phase
-use Rattle.memory.specs.Memory.{newCode, newOut, onPage, writeOut, addOut, acceptOut, blockOut, unblockOut, removeOut, trackCode, trackOut}
+use Rattle.memory.specs.Memory.{newCode, newOut, onPage}
 use Rattle.memory.proofs.Laws.{page-either, page-done, page-other}
-use Rattle.migration.specs.Migration.{startCode, startOut, pauseCode, pauseOut, abortCode, abortOut, newEpochCode, newEpochOut, resetCode, resetOut}
+use Rattle.migration.specs.Migration.{sweepCode, sweepNext, onAll, onSession}
 use Rattle.migration.specs.Token.{tokenSays, tokenCode, inTheWay, tokenOut}
-use Rattle.migration.proofs.Laws.{token-numbers, token-number, new-epoch-table, reset-table}
+use Rattle.migration.proofs.Laws.{token-numbers, token-number, alone-table}
 use Rattle.scan.specs.Scan.{ScanOutcome, dscanOf, dcheckOf, checkedBy}
 use Rattle.scan.proofs.Outcomes.{OfScans, range-code, look-page, dscan-either, dscan-strange, dchecked, dcheck-either, dcheck-strange}
 use Rattle.scan.proofs.RangeLaws.{range-page}
@@ -39,7 +38,7 @@ use Rattle.export.proofs.Moves.{exported, step-page, step-failed, export-either
 use Rattle.calls.specs.Calls.{effect, scanEffect, exportEffect, effectOf}
 use Rattle.calls.specs.Promises.{OneOutcome, refusal, Kept, RefusalKeeps, isNew, StrangeStays, PagesMove}
 use Rattle.calls.specs.declared.Call.{Call}
-use Rattle.calls.specs.declared.Call.the-variants.{New, Write, Add, Accept, Block, Unblock, Remove, Track, Start, Pause, Abort, NewEpoch, Reset, StartToken, Dscan, Dcheck, Export}
+use Rattle.calls.specs.declared.Call.the-variants.{New, OnPage, OnAll, OnSession, StartToken, Dscan, Dcheck, Export}
 
 pub one-outcome : OneOutcome
 one-outcome =
@@ -64,13 +63,6 @@ zero-no-refusal n e r = false≢true (ap refusal (sym (eqb-true n 0 e)) ∙ r)
 answered-keeps : (code : ℕ) (s : Session) (t : List ℕ) (s' : Session) (t' : List ℕ) → refusal (answered code s t s' t' .answer .code) ≡ true → Returns (answered code s t s' t') s t
 answered-keeps code s t s' t' =
     answered-either (λ (o : Outcome). refusal (o .answer .code) ≡ true → Returns o s t) code s t s' t' (λ e r. absurd (zero-no-refusal code e r)) (λ e r. (refl, refl))
-
-all-keeps : (f : Page → Page) (code : ℕ) (s s' : Session) (t : List ℕ) → refusal (answeredBy f code s s' t .answer .code) ≡ true → Returns (answeredBy f code s s' t) s t
-all-keeps f code s s' t = answered-keeps code s t s' (sweepOf (onWords f) t)
-
-page-keeps : (m : Move) (s : Session) (t : List ℕ) (at : ℕ) → refusal (onPage m s t at .answer .code) ≡ true → Returns (onPage m s t at) s t
-unfolding onPage
-page-keeps m s t at = answered-keeps _ s t s _
 
 token-keeps : (s : Session) (t : List ℕ) → refusal (tokenSays (tokenOut s t .token) .code) ≡ true → tokenOut s t .session ≡ s
 unfolding tokenOut
@@ -106,20 +98,11 @@ module _ (s : Session) (t l b : List ℕ) where
   plain-kept o k = as-came (o .answer .code) 0 (o .answer .session) (o .table) (k .0) (k .1)
 
   keeps : (c : Call) → refusal (effectOf c s t l b .returned .code) ≡ true → Kept s t l b (effectOf c s t l b)
-  unfolding newOut writeOut addOut acceptOut blockOut unblockOut removeOut trackOut startOut pauseOut abortOut newEpochOut resetOut
+  unfolding newOut onPage onAll onSession
   keeps (New created) r = plain-kept (newOut s t created) (answered-keeps (newCode (length t) created) s t (newSession (pageCount t) created) (replicate (length t) 0) r)
-  keeps (Write page mark) r = plain-kept (writeOut s t page mark) (page-keeps (move.Write mark) s t page r)
-  keeps (Add page) r = plain-kept (addOut s t page) (page-keeps move.Add s t page r)
-  keeps (Accept page) r = plain-kept (acceptOut s t page) (page-keeps move.Accept s t page r)
-  keeps (Block page) r = plain-kept (blockOut s t page) (page-keeps move.Block s t page r)
-  keeps (Unblock page) r = plain-kept (unblockOut s t page) (page-keeps move.Unblock s t page r)
-  keeps (Remove page) r = plain-kept (removeOut s t page) (page-keeps move.Remove s t page r)
-  keeps Track r = plain-kept (trackOut s t) (all-keeps uncached (trackCode s (length t)) s (withClock s (ticked (s .clock))) t r)
-  keeps Start r = plain-kept (startOut s t) (all-keeps started (startCode s t) s (begun s phase.Live 1) t r)
-  keeps Pause r = plain-kept (pauseOut s t) (all-keeps uncached (pauseCode s t) s (withPhase s phase.Blackout) t r)
-  keeps Abort r = plain-kept (abortOut s t) (all-keeps aborted (abortCode s (length t)) s (begun s phase.Idle 0) t r)
-  keeps NewEpoch r = plain-kept (newEpochOut s t) (answered-keeps (newEpochCode s (length t)) s t (withEpoch s (s .epoch + 1)) t r)
-  keeps Reset r = plain-kept (resetOut s t) (answered-keeps (resetCode s (length t)) s t (withCheck s unchecked) t r)
+  keeps (OnPage page m) r = plain-kept (onPage m s t page) (answered-keeps _ s t _ _ r)
+  keeps (OnAll k) r = plain-kept (onAll k s t) (answered-keeps _ s t _ _ r)
+  keeps (OnSession k) r = plain-kept (onSession k s t) (answered-keeps _ s t _ _ r)
   keeps StartToken r = as-came (tokenSays (tokenOut s t .token) .code) (tokenSays (tokenOut s t .token) .page) (tokenOut s t .session) t (token-keeps s t r) refl
   keeps (Dscan first count budget) r =
       dscan-either s t l first count budget (λ (o : ScanOutcome). refusal (o .answer .code) ≡ true → Kept s t l b (scanEffect o b))
@@ -139,18 +122,9 @@ module _ (s : Session) (t l b : List ℕ) where
 
   page-zero : (c : Call) → eqb (effectOf c s t l b .returned .code) codes.exportedDirtyPagesRemain ≡ false → eqb (effectOf c s t l b .returned .code) codes.unexportedMemoryRemains ≡ false → effectOf c s t l b .returned .page ≡ 0
   page-zero (New created) e f = refl
-  page-zero (Write page mark) e f = refl
-  page-zero (Add page) e f = refl
-  page-zero (Accept page) e f = refl
-  page-zero (Block page) e f = refl
-  page-zero (Unblock page) e f = refl
-  page-zero (Remove page) e f = refl
-  page-zero Track e f = refl
-  page-zero Start e f = refl
-  page-zero Pause e f = refl
-  page-zero Abort e f = refl
-  page-zero NewEpoch e f = refl
-  page-zero Reset e f = refl
+  page-zero (OnPage page m) e f = refl
+  page-zero (OnAll k) e f = refl
+  page-zero (OnSession k) e f = refl
   page-zero StartToken e f = token-page-zero s t e f
   page-zero (Dscan first count budget) e f = refl
   page-zero (Dcheck budget) e f = refl
@@ -180,26 +154,17 @@ sweep-strange f t i e = go (ltb i (pageCount t)) refl
     go true q = sweep-at (onWords f) t i (ltb-true i (pageCount t) q) ∙ words-stay f (wordsAt t i) e
     go false q = sweep-past (onWords f) t i (ltb-false i (pageCount t) q)
 
-all-strange : (f : Page → Page) (code : ℕ) (s s' : Session) (t : List ℕ) (i : ℕ) → strange (pageAt t i) ≡ true → wordsAt (answeredBy f code s s' t .table) i ≡ wordsAt t i
-all-strange f code s s' t i e =
-    answered-words code s t s' (sweepOf (onWords f) t) i (λ x. sweep-strange f t i e)
+all-strange : (k : Sweep) (s : Session) (t : List ℕ) (i : ℕ) → strange (pageAt t i) ≡ true → wordsAt (onAll k s t .table) i ≡ wordsAt t i
+unfolding onAll
+all-strange k s t i e =
+    answered-words (sweepCode k s t) s t (sweepNext k s) (sweepOf (onWords (sweptBy k)) t) i (λ x. sweep-strange (sweptBy k) t i e)
 
 module _ (s : Session) (t l b : List ℕ) (i : ℕ) (e : strange (pageAt t i) ≡ true) where
   strange-words : (c : Call) → isNew c ≡ false → wordsAt (effectOf c s t l b .table) i ≡ wordsAt t i
-  unfolding writeOut addOut acceptOut blockOut unblockOut removeOut trackOut startOut pauseOut abortOut
   strange-words (New created) n = absurd (true≢false n)
-  strange-words (Write page mark) n = page-strange (move.Write mark) s t page i e
-  strange-words (Add page) n = page-strange move.Add s t page i e
-  strange-words (Accept page) n = page-strange move.Accept s t page i e
-  strange-words (Block page) n = page-strange move.Block s t page i e
-  strange-words (Unblock page) n = page-strange move.Unblock s t page i e
-  strange-words (Remove page) n = page-strange move.Remove s t page i e
-  strange-words Track n = all-strange uncached (trackCode s (length t)) s (withClock s (ticked (s .clock))) t i e
-  strange-words Start n = all-strange started (startCode s t) s (begun s phase.Live 1) t i e
-  strange-words Pause n = all-strange uncached (pauseCode s t) s (withPhase s phase.Blackout) t i e
-  strange-words Abort n = all-strange aborted (abortCode s (length t)) s (begun s phase.Idle 0) t i e
-  strange-words NewEpoch n = ap (λ (u : List ℕ). wordsAt u i) (new-epoch-table s t)
-  strange-words Reset n = ap (λ (u : List ℕ). wordsAt u i) (reset-table s t)
+  strange-words (OnPage page m) n = page-strange m s t page i e
+  strange-words (OnAll k) n = all-strange k s t i e
+  strange-words (OnSession k) n = ap (λ (u : List ℕ). wordsAt u i) (alone-table k s t)
   strange-words StartToken n = refl
   strange-words (Dscan first count budget) n = dscan-strange s t l first count budget i e
   strange-words (Dcheck budget) n = dcheck-strange s t l budget i e

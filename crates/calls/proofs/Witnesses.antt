@@ -9,13 +9,13 @@ use Rattle.page.specs.Page.{pageOf, tracked}
 use Rattle.table.specs.Table.{legal, wordsAt}
 use Rattle.session.specs.Formed.{formed, busy, gated}
 use Rattle.session.specs.Outcome.{answered}
-use Rattle.memory.specs.Memory.{onPage, trackCode, trackOut}
+use Rattle.memory.specs.Memory.{onPage}
 use Rattle.entry.specs.Entry.{invalid, unexportable, statusOf, sentEntry, failedEntry, takenOf}
-use Rattle.migration.specs.Migration.{pauseCode, pauseOut}
+use Rattle.migration.specs.Migration.{sweepCode, onAll}
 use Rattle.calls.specs.Witnesses.{Met}
 
 pub met : Met
-unfolding legal formed busy gated answered recordOf plain stateOf isStrange isIn hasMove pageOf tracked wordsAt invalid unexportable statusOf sentEntry failedEntry takenOf onPage trackCode trackOut pauseCode pauseOut entryOf
+unfolding legal formed busy gated answered recordOf plain stateOf isStrange isIn hasMove pageOf tracked wordsAt invalid unexportable statusOf sentEntry failedEntry takenOf onPage sweepCode onAll entryOf
 met =
     record {
       refuses = refl;

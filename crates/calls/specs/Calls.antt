@@ -4,8 +4,8 @@ use Prim.Native.Nat.{ℕ}
 use Rattle.session.specs.Outcome.{Outcome}
 use Rattle.session.specs.declared.Session.{Session}
 use Rattle.session.specs.declared.Answer.{Answer}
-use Rattle.memory.specs.Memory.{newOut, writeOut, addOut, acceptOut, blockOut, unblockOut, removeOut, trackOut}
-use Rattle.migration.specs.Migration.{startOut, pauseOut, abortOut, newEpochOut, resetOut}
+use Rattle.memory.specs.Memory.{newOut, onPage}
+use Rattle.migration.specs.Migration.{onAll, onSession}
 use Rattle.migration.specs.Token.{tokenSays, tokenOut}
 use Rattle.migration.specs.declared.token.TokenAnswer.{TokenAnswer}
 use Rattle.scan.specs.Scan.{ScanOutcome, dscanOut, dcheckOut}
@@ -13,7 +13,7 @@ use Rattle.scan.specs.declared.ScanAnswer.{ScanAnswer}
 use Rattle.export.specs.Export.{ExportOutcome, exportOut}
 use Rattle.export.specs.declared.ExportAnswer.{ExportAnswer}
 use Rattle.calls.specs.declared.Call.{Call}
-use Rattle.calls.specs.declared.Call.the-variants.{New, Write, Add, Accept, Block, Unblock, Remove, Track, Start, Pause, Abort, NewEpoch, Reset, StartToken, Dscan, Dcheck, Export}
+use Rattle.calls.specs.declared.Call.the-variants.{New, OnPage, OnAll, OnSession, StartToken, Dscan, Dcheck, Export}
 use Rattle.calls.specs.declared.Returned.{Returned}
 
 pub record Effect : Type 0 where
@@ -56,18 +56,9 @@ exportEffect o = record { returned = exportNumbers (o .answer); table = o .table
 
 abbrev pub effectOf : Call → Session → List ℕ → List ℕ → List ℕ → Effect
 effectOf (New created) s t l b = effect (newOut s t created) l b
-effectOf (Write page mark) s t l b = effect (writeOut s t page mark) l b
-effectOf (Add page) s t l b = effect (addOut s t page) l b
-effectOf (Accept page) s t l b = effect (acceptOut s t page) l b
-effectOf (Block page) s t l b = effect (blockOut s t page) l b
-effectOf (Unblock page) s t l b = effect (unblockOut s t page) l b
-effectOf (Remove page) s t l b = effect (removeOut s t page) l b
-effectOf Track s t l b = effect (trackOut s t) l b
-effectOf Start s t l b = effect (startOut s t) l b
-effectOf Pause s t l b = effect (pauseOut s t) l b
-effectOf Abort s t l b = effect (abortOut s t) l b
-effectOf NewEpoch s t l b = effect (newEpochOut s t) l b
-effectOf Reset s t l b = effect (resetOut s t) l b
+effectOf (OnPage page m) s t l b = effect (onPage m s t page) l b
+effectOf (OnAll k) s t l b = effect (onAll k s t) l b
+effectOf (OnSession k) s t l b = effect (onSession k s t) l b
 effectOf StartToken s t l b = tokenEffect (tokenOut s t) t l b
 effectOf (Dscan first count budget) s t l b = scanEffect (dscanOut s t l first count budget) b
 effectOf (Dcheck budget) s t l b = scanEffect (dcheckOut s t l budget) b

@@ -28,7 +28,7 @@ use Rattle.lists.specs.Run.{Standing, gpaOf, taking, stepped}
 use Rattle.export.specs.Export.{exportStep}
 use Rattle.calls.specs.Calls.{Effect, effectOf}
 use Rattle.calls.specs.declared.Call.{Call}
-use Rattle.calls.specs.declared.Call.the-variants.{New, Write, Add, Accept, Block, Unblock, Remove, Track, Start, Pause, Abort, NewEpoch, Reset, StartToken, Dscan, Dcheck, Export}
+use Rattle.calls.specs.declared.Call.the-variants.{New, OnPage, OnAll, OnSession, StartToken, Dscan, Dcheck, Export}
 use Rattle.calls.specs.declared.Returned.{Returned}
 
 -- what a call's contract says of an answer, and of the table, the list and the buffer that it leaves
@@ -81,18 +81,9 @@ pub record RefusalKeeps : Type 0 where
 
 abbrev pub isNew : Call → Bool
 isNew (New created) = true
-isNew (Write page mark) = false
-isNew (Add page) = false
-isNew (Accept page) = false
-isNew (Block page) = false
-isNew (Unblock page) = false
-isNew (Remove page) = false
-isNew Track = false
-isNew Start = false
-isNew Pause = false
-isNew Abort = false
-isNew NewEpoch = false
-isNew Reset = false
+isNew (OnPage page m) = false
+isNew (OnAll k) = false
+isNew (OnSession k) = false
 isNew StartToken = false
 isNew (Dscan first count budget) = false
 isNew (Dcheck budget) = false

@@ -8,6 +8,7 @@ use lib.ListN.{length}
 use Rattle.words.specs.Codes as codes
 use Rattle.page.specs.Page.{strange}
 use Rattle.page.specs.declared.moves.Move.the-variants as move
+use Rattle.page.specs.declared.sweeps.Sweep.the-variants.{Track, Pause}
 use Rattle.table.specs.Table.{pageCount, pageAt}
 use Rattle.session.specs.Session.{newSession}
 use Rattle.session.specs.declared.Phase.the-variants as phase
@@ -18,7 +19,7 @@ use Rattle.lists.specs.Run.{Standing, standing, gpaOf, taking}
 use Rattle.export.specs.Export.{exportStep}
 use Rattle.calls.specs.Calls.{effectOf}
 use Rattle.calls.specs.Promises.{refusal, isNew}
-use Rattle.calls.specs.declared.Call.the-variants.{Track, Pause}
+use Rattle.calls.specs.declared.Call.the-variants.{OnAll}
 
 -- what New makes: a session of one page and two streams, and the page's two words
 abbrev pub fresh : Session
@@ -47,13 +48,13 @@ unready = export free
 
 pub record Met : Type 0 where
   -- RefusalKeeps: a pause in Idle
-  pub refuses : refusal (effectOf Pause fresh free [] [] .returned .code) ≡ true
-  pub not53 : eqb (effectOf Pause fresh free [] [] .returned .code) codes.exportedDirtyPagesRemain ≡ false
-  pub not54 : eqb (effectOf Pause fresh free [] [] .returned .code) codes.unexportedMemoryRemains ≡ false
+  pub refuses : refusal (effectOf (OnAll Pause) fresh free [] [] .returned .code) ≡ true
+  pub not53 : eqb (effectOf (OnAll Pause) fresh free [] [] .returned .code) codes.exportedDirtyPagesRemain ≡ false
+  pub not54 : eqb (effectOf (OnAll Pause) fresh free [] [] .returned .code) codes.unexportedMemoryRemains ≡ false
   -- StrangeStays: a track that is done
-  pub other : isNew Track ≡ false
+  pub other : isNew (OnAll Track) ≡ false
   pub passed : strange (pageAt unused 0) ≡ true
-  pub done : effectOf Track fresh unused [] [] .returned .code ≡ codes.done
+  pub done : effectOf (OnAll Track) fresh unused [] [] .returned .code ≡ codes.done
   -- PagesMove: an add, the page beside it, and every page; an entry; a scan of the table
   pub one : onPage move.Add fresh free 0 .answer .code ≡ 0
   pub others : _≡_ {A = ℕ} 1 0 → ⊥

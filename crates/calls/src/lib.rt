@@ -1,9 +1,12 @@
-// Every call of the bench as one data type, so that what holds of all of them is said once.
+// Every call of the bench as one data type, by shape, so that what holds of all calls, or of all calls of a shape, is said once.
 ghost use mathlib.Core.Path.{_≡_};
 ghost use mathlib.Core.List.{[]};
 ghost use Rattle.calls.specs.Calls.{withoutNumbers, scanNumbers, exportNumbers, effectOf};
 use export::ExportAnswer;
+use migration::Alone;
 use migration::token;
+use page::moves::Move;
+use page::sweeps::Sweep;
 use scan::ScanAnswer;
 use session::Answer;
 use session::Session;
@@ -12,31 +15,19 @@ pub enum Call {
     New {
         created: u64,
     },
-    Write {
+    // Write, add, accept, block, unblock, remove.
+    OnPage {
         page: usize,
-        mark: u64,
+        made: Move,
     },
-    Add {
-        page: usize,
+    // Track, start, pause, abort.
+    OnAll {
+        sweep: Sweep,
     },
-    Accept {
-        page: usize,
+    // New epoch, reset.
+    OnSession {
+        alone: Alone,
     },
-    Block {
-        page: usize,
-    },
-    Unblock {
-        page: usize,
-    },
-    Remove {
-        page: usize,
-    },
-    Track,
-    Start,
-    Pause,
-    Abort,
-    NewEpoch,
-    Reset,
     StartToken,
     Dscan {
         first: usize,
@@ -157,18 +148,9 @@ pub fn perform(
 {
     match call {
         Call::New { created } => without_numbers(memory::new(s, table, created)),
-        Call::Write { page, mark } => without_numbers(memory::write(s, table, page, mark)),
-        Call::Add { page } => without_numbers(memory::add(s, table, page)),
-        Call::Accept { page } => without_numbers(memory::accept(s, table, page)),
-        Call::Block { page } => without_numbers(memory::block(s, table, page)),
-        Call::Unblock { page } => without_numbers(memory::unblock(s, table, page)),
-        Call::Remove { page } => without_numbers(memory::remove(s, table, page)),
-        Call::Track => without_numbers(memory::track(s, table)),
-        Call::Start => without_numbers(migration::start(s, table)),
-        Call::Pause => without_numbers(migration::pause(s, table)),
-        Call::Abort => without_numbers(migration::abort(s, table)),
-        Call::NewEpoch => without_numbers(migration::new_epoch(s, table.len())),
-        Call::Reset => without_numbers(migration::reset(s, table.len())),
+        Call::OnPage { page, made } => without_numbers(memory::on_page(made, s, table, page)),
+        Call::OnAll { sweep } => without_numbers(migration::on_all(sweep, s, table)),
+        Call::OnSession { alone } => without_numbers(migration::on_session(alone, s, table.len())),
         Call::StartToken => start_token(s, &table[..]),
         Call::Dscan {
             first,
