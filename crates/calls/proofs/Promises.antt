@@ -21,14 +21,14 @@ use Rattle.table.specs.Table.{pageCount, wordsAt, pageAt, putAt, sweepOf}
 use Rattle.table.proofs.Laws.{put-other, put-back, sweep-at, sweep-past, page-swept}
 use Rattle.session.specs.Session.{newSession, withPhase}
 use Rattle.session.specs.Outcome.{Outcome, answered, answeredBy}
-use Rattle.session.proofs.Laws.{answered-either, answered-words}
+use Rattle.session.proofs.Laws.{answered-either}
 use Rattle.session.specs.declared.Session.{Session}
 use Rattle.session.specs.declared.Phase.the-variants as phase
 use Rattle.memory.specs.Memory.{newCode, newOut, onPage}
 use Rattle.memory.proofs.Laws.{page-either, page-done, page-other}
-use Rattle.migration.specs.Migration.{sweepCode, sweepNext, onAll, onSession}
+use Rattle.migration.specs.Migration.{onAll, onSession}
 use Rattle.migration.specs.Token.{tokenSays, tokenCode, inTheWay, tokenOut}
-use Rattle.migration.proofs.Laws.{token-numbers, token-number, alone-table}
+use Rattle.migration.proofs.Laws.{token-numbers, token-number, all-either, alone-table}
 use Rattle.scan.specs.Scan.{ScanOutcome, dscanOf, dcheckOf, checkedBy}
 use Rattle.scan.proofs.Outcomes.{OfScans, range-code, look-page, dscan-either, dscan-strange, dchecked, dcheck-either, dcheck-strange}
 use Rattle.scan.proofs.RangeLaws.{range-page}
@@ -155,9 +155,8 @@ sweep-strange f t i e = go (ltb i (pageCount t)) refl
     go false q = sweep-past (onWords f) t i (ltb-false i (pageCount t) q)
 
 all-strange : (k : Sweep) (s : Session) (t : List ℕ) (i : ℕ) → strange (pageAt t i) ≡ true → wordsAt (onAll k s t .table) i ≡ wordsAt t i
-unfolding onAll
 all-strange k s t i e =
-    answered-words (sweepCode k s t) s t (sweepNext k s) (sweepOf (onWords (sweptBy k)) t) i (λ x. sweep-strange (sweptBy k) t i e)
+    all-either (λ (o : Outcome). wordsAt (o .table) i ≡ wordsAt t i) k s t (λ o. sweep-strange (sweptBy k) t i e) (λ q. refl)
 
 module _ (s : Session) (t l b : List ℕ) (i : ℕ) (e : strange (pageAt t i) ≡ true) where
   strange-words : (c : Call) → isNew c ≡ false → wordsAt (effectOf c s t l b .table) i ≡ wordsAt t i

@@ -6,23 +6,26 @@ use Prim.Native.Nat.{ℕ, zero, suc, _+_, _-_, _/_, _≤_, _<_}
 use native.Mathlib.Omega.{arith}
 use lib.Dec.{eqb}
 use lib.ListN.{length}
-use borrow.Author.Tests.{ltb-true, ltb-false, eqb-true}
+use borrow.Author.Tests.{ltb-true, ltb-false, leb-false, eqb-true}
 use Rattle.words.specs.Codes as codes
 use Rattle.words.specs.Info.{infoOf}
 use Rattle.refusals.specs.Refusals.{_gives_}
 use Rattle.refusals.proofs.Laws.{either, passed, first-all, not-false}
+use Rattle.page.specs.declared.sweeps.Sweep.{Sweep}
+use Rattle.page.specs.declared.sweeps.Sweep.the-variants.{Track, Start, Pause, Abort}
 use Rattle.table.specs.Table.{legal, wordsAt}
-use Rattle.session.specs.Session.{moving, streamPlaces, newSession, withPhase, withEpoch, workOf}
-use Rattle.session.specs.Formed.{fewestCreated, mostCreated, within, usable}
-use Rattle.session.specs.declared.Phase.the-variants.{Live, Blackout, Done}
+use Rattle.session.specs.Session.{phasesOf, moving, streamPlaces, newSession, withPhase, workOf}
+use Rattle.session.specs.Formed.{lastEpoch, fewestCreated, mostCreated, within, usable}
+use Rattle.session.specs.declared.Phase.the-variants.{Blackout, Done}
 use Rattle.session.specs.declared.Session.{Session}
 use Rattle.session.specs.declared.streams.Work.the-variants.{AtRest, Interrupted}
-use Rattle.session.proofs.Laws.{gate-open}
+use Rattle.session.proofs.Laws.{Open, gate-open}
 use Rattle.session.proofs.FormedLaws.{Formed, formed-means}
 use Rattle.memory.specs.Memory.{newCode}
-use Rattle.migration.specs.Migration.{pauseCode, newEpochTests, newEpochCode}
+use Rattle.migration.specs.Migration.{sweepWhen, sweepTests, sweepNext, aloneWhen, aloneTests, aloneNext}
 use Rattle.migration.specs.Token.{tokenTests, tokenCode}
-use Rattle.migration.proofs.Laws.{epoch-room}
+use Rattle.migration.specs.declared.Alone.{Alone}
+use Rattle.migration.specs.declared.Alone.the-variants.{NewEpoch, Reset}
 use Rattle.scan.specs.Look.{lookOf}
 use Rattle.scan.specs.Scan.{stopTests, stopCode, ScanOut, scanRun, partOf, rangeRun, checkedBy, dcheckTests, dcheckCode, dcheckOf}
 use Rattle.scan.specs.declared.Scan.{Scan}
@@ -35,7 +38,7 @@ use Rattle.export.specs.Export.{exportTests, exportCode, groundOf, exportStep, 
 use Rattle.export.specs.declared.ExportAnswer.{ExportAnswer}
 use Rattle.export.proofs.Laws.{export-ready}
 use Rattle.export.proofs.Moves.{exported}
-use Rattle.history.proofs.Sessions.{pause-formed, epoch-formed, check-formed, token-formed, run-formed, new-formed}
+use Rattle.history.proofs.Sessions.{track-formed, start-formed, abort-formed, pause-formed, epoch-formed, check-formed, reset-formed, token-formed, run-formed, new-formed}
 
 -- ---- New
 
@@ -45,20 +48,21 @@ new-made len created e =
     let p = passed (not (legal len) gives codes.malformed ∷ not (within fewestCreated mostCreated created) gives codes.operandInvalid ∷ []) refl e in
     new-formed len created (not-false (legal len) (p .0)) (not-false (within fewestCreated mostCreated created) (p .1 .0))
 
--- ---- the session calls
+-- ---- the calls on every page and on the session alone
+
+pub sweep-made : (k : Sweep) (s : Session) (len : ℕ) (stops : Bool) → Open s len (phasesOf (sweepWhen k)) (sweepTests k s stops) → Formed (sweepNext k s) len
+sweep-made Track s len stops o = track-formed (formed-means s len (o .formed)) (leb-false lastEpoch (s .clock .tlb) (o .passed .0))
+sweep-made Start s len stops o = start-formed (formed-means s len (o .formed))
+sweep-made Pause s len stops o = pause-formed (formed-means s len (o .formed)) (o .comes)
+sweep-made Abort s len stops o = abort-formed (formed-means s len (o .formed))
+
+pub alone-made : (k : Alone) (s : Session) (len : ℕ) → Open s len (phasesOf (aloneWhen k)) (aloneTests k s) → Formed (aloneNext k s) len
+alone-made NewEpoch s len o = epoch-formed (formed-means s len (o .formed)) (o .comes) (leb-false lastEpoch (s .epoch) (o .passed .1 .0))
+alone-made Reset s len o = reset-formed (formed-means s len (o .formed))
+
+-- ---- the token
 
 module _ (s : Session) (t : List ℕ) where
-  pub pause-made : pauseCode s t ≡ 0 → Formed (withPhase s Blackout) (length t)
-  unfolding pauseCode
-  pause-made e =
-      let o = gate-open s (length t) (Live ∷ []) _ refl e in pause-formed (formed-means s (length t) (o .formed)) (o .comes)
-
-  pub epoch-made : newEpochCode s (length t) ≡ 0 → Formed (withEpoch s (s .epoch + 1)) (length t)
-  unfolding newEpochCode
-  epoch-made e =
-      let o = gate-open s (length t) moving (newEpochTests s) refl e in
-      epoch-formed (formed-means s (length t) (o .formed)) (o .comes) (epoch-room s (length t) e)
-
   pub token-made : tokenCode s t ≡ 0 → Formed (withPhase s Done) (length t)
   unfolding tokenCode
   token-made e =

@@ -13,16 +13,17 @@ use borrow.Author.Tests.{lt-leb}
 use Rattle.words.specs.Codes as codes
 use Rattle.refusals.proofs.Laws.{either}
 use Rattle.table.specs.Table.{pageCount, pageAt}
-use Rattle.session.specs.Session.{streamPlaces, moving, unchecked, withEpoch, withCheck}
+use Rattle.session.specs.Session.{streamPlaces, unchecked, withEpoch, withCheck}
 use Rattle.session.specs.Formed.{formed, busy, mostEntries, lastEpoch}
-use Rattle.session.specs.Outcome.{outcome, answered}
+use Rattle.session.specs.Outcome.{outcome}
 use Rattle.session.specs.declared.Phase.the-variants.{Blackout}
 use Rattle.session.specs.declared.Session.{Session}
-use Rattle.session.proofs.Laws.{open-gate}
 use Rattle.session.proofs.FormedLaws.{formed-means}
-use Rattle.migration.specs.Migration.{newEpochTests, newEpochCode, newEpochOut, resetCode, resetOut}
+use Rattle.migration.specs.Migration.{onSession}
+use Rattle.migration.specs.declared.Alone.the-variants.{NewEpoch, Reset}
+use Rattle.migration.proofs.Laws.{alone-done}
 use Rattle.scan.specs.Scan.{dcheckOut}
-use Rattle.calls.specs.declared.Call.the-variants.{NewEpoch, Reset}
+use Rattle.calls.specs.declared.Call.the-variants.{OnSession}
 use Rattle.history.specs.History.{given, World, effectIn, after}
 use Rattle.history.specs.Earning.{Paused, reset, nextEpoch, Ask, Fair, Full, entriesOf, withList, Checked, asking, checked, complete, mostLists}
 use Rattle.history.specs.Earning.{joined, cutAnew}
@@ -112,18 +113,15 @@ few-lists d (a ∷ l) (suc k) w n c ls m unfinished inside enough far =
 
 -- ---- the reset
 
-reset-makes : (s : Session) (t : List ℕ) → formed s (length t) ≡ true → s .phase ≡ Blackout → resetOut s t ≡ outcome 0 (withCheck s unchecked) t
-unfolding resetOut resetCode answered
-reset-makes s t f p =
-    let z : resetCode s (length t) ≡ 0 = open-gate s (length t) moving [] (record { formed = f; comes = rw p; passed = tt }) in
-    rw z
+reset-makes : (s : Session) (t : List ℕ) → formed s (length t) ≡ true → s .phase ≡ Blackout → onSession Reset s t ≡ outcome 0 (withCheck s unchecked) t
+reset-makes s t f p = alone-done Reset s t (record { formed = f; comes = rw p; passed = tt })
 
 reset-mid : (w : World) → Sound w → formed (w .session) (length (w .table)) ≡ true → Paused w → Mid (reset w) (w .session .fixed .pages) (w .session .fixed .created) []
 unfolding busy
 reset-mid w sound f p =
     record {
-      sound = sound-after w (given Reset [] []) sound;
-      formed = formed-after w (given Reset [] []) f;
+      sound = sound-after w (given (OnSession Reset) [] []) sound;
+      formed = formed-after w (given (OnSession Reset) [] []) f;
       between =
           rw (reset-makes (w .session) (w .table) f (p .phase))
           (record {
@@ -143,7 +141,7 @@ module _ (w : World) (sound : Sound w) (f : formed (w .session) (length (w .tabl
   -- DCHECKs that get on by d pages each come to the end, if there are enough of them
   enough-end : (d : ℕ) → ((a : Ask) → List·Memᴰ a asks → Enough d (w .session .fixed .pages) a) → w .session .fixed .pages ≤ length asks * d → complete (checked (reset w) asks .world) ≡ true
   enough-end d enough far =
-      let s : resetOut (w .session) (w .table) ≡ outcome 0 (withCheck (w .session) unchecked) (w .table) = reset-makes (w .session) (w .table) f (p .phase) in
+      let s : onSession Reset (w .session) (w .table) ≡ outcome 0 (withCheck (w .session) unchecked) (w .table) = reset-makes (w .session) (w .table) f (p .phase) in
       let place : reset w .session .check .place ≡ 0 = rw s in
       let some : 1 ≤ w .session .fixed .pages = formed-means (w .session) (length (w .table)) f .pages .low in
       to-end d asks (reset w) (w .session .fixed .pages) (w .session .fixed .created) [] (reset-mid w sound f p) (rw s) (omega (arith, place, some)) enough (omega (arith, place, far))
@@ -168,7 +166,7 @@ module _ (w : World) (sound : Sound w) (f : formed (w .session) (length (w .tabl
   pub check-few : ((a : Ask) → List·Memᴰ a asks → Full (pageCount (w .table)) a) → length (checked (reset w) asks .lists) ≤ mostLists
   check-few full =
       let m = formed-means (w .session) (length (w .table)) f in
-      let s : resetOut (w .session) (w .table) ≡ outcome 0 (withCheck (w .session) unchecked) (w .table) = reset-makes (w .session) (w .table) f (p .phase) in
+      let s : onSession Reset (w .session) (w .table) ≡ outcome 0 (withCheck (w .session) unchecked) (w .table) = reset-makes (w .session) (w .table) f (p .phase) in
       let place : reset w .session .check .place ≡ 0 = rw s in
       few-lists mostEntries asks mostLists (reset w) (w .session .fixed .pages) (w .session .fixed .created) [] (reset-mid w sound f p) (rw s) (omega (arith, place, m .pages .low)) (full-enough full) (omega (arith, place, m .pages .high))
 
@@ -187,23 +185,20 @@ module _ (w : World) (sound : Sound w) (f : formed (w .session) (length (w .tabl
 
 -- ---- the new epoch
 
-epoch-makes : (s : Session) (t : List ℕ) → formed s (length t) ≡ true → s .phase ≡ Blackout → busy s ≡ false → s .epoch < lastEpoch → newEpochOut s t ≡ outcome 0 (withEpoch s (s .epoch + 1)) t
-unfolding newEpochOut newEpochCode answered
-epoch-makes s t f p b l =
-    let z : newEpochCode s (length t) ≡ 0 = open-gate s (length t) moving (newEpochTests s) (record { formed = f; comes = rw p; passed = (b, (lt-leb lastEpoch (s .epoch) l, tt)) }) in
-    rw z
+epoch-makes : (s : Session) (t : List ℕ) → formed s (length t) ≡ true → s .phase ≡ Blackout → busy s ≡ false → s .epoch < lastEpoch → onSession NewEpoch s t ≡ outcome 0 (withEpoch s (s .epoch + 1)) t
+epoch-makes s t f p b l = alone-done NewEpoch s t (record { formed = f; comes = rw p; passed = (b, (lt-leb lastEpoch (s .epoch) l, tt)) })
 
 epoch-left : (w : World) (n c : ℕ) (ls : List (List ℕ)) → Mid w n c ls → length (w .session .streams) ≡ streamPlaces → complete w ≡ true → Left (nextEpoch w) c ls
 unfolding busy
 epoch-left w n c ls m streams done =
     let g = m .between in
-    let made : newEpochOut (w .session) (w .table) ≡ outcome 0 (withEpoch (w .session) (w .session .epoch + 1)) (w .table) = epoch-makes (w .session) (w .table) (m .formed) (g .phase) (g .rest) (g .epoch) in
+    let made : onSession NewEpoch (w .session) (w .table) ≡ outcome 0 (withEpoch (w .session) (w .session .epoch + 1)) (w .table) = epoch-makes (w .session) (w .table) (m .formed) (g .phase) (g .rest) (g .epoch) in
     let r = formed-means (w .session) (length (w .table)) (m .formed) in
     record {
-      formed = formed-after w (given NewEpoch [] []) (m .formed);
+      formed = formed-after w (given (OnSession NewEpoch) [] []) (m .formed);
       phase = rw made (g .phase);
       rest = rw made (g .rest);
-      streams = streams-after w (given NewEpoch [] []) streams;
+      streams = streams-after w (given (OnSession NewEpoch) [] []) streams;
       complete = rw made done;
       created = rw made (g .created);
       lists = g .lists;
@@ -226,5 +221,5 @@ pub check-left : (w : World) → Sound w → formed (w .session) (length (w .tab
 check-left w sound f streams p asks done =
     epoch-left (checked (reset w) asks .world) (w .session .fixed .pages) (w .session .fixed .created) (checked (reset w) asks .lists)
     (checked-mid asks (reset w) (w .session .fixed .pages) (w .session .fixed .created) [] (reset-mid w sound f p))
-    (checked-streams asks (reset w) (streams-after w (given Reset [] []) streams))
+    (checked-streams asks (reset w) (streams-after w (given (OnSession Reset) [] []) streams))
     done

@@ -22,7 +22,7 @@ use Rattle.page.specs.declared.PageWords.{PageWords}
 use Rattle.page.specs.declared.moves.Move.{Move}
 use Rattle.page.specs.declared.moves.Move.the-variants.{Write, Add, Accept, Block, Unblock, Remove}
 use Rattle.page.specs.declared.sweeps.Sweep.{Sweep}
-use Rattle.page.specs.declared.sweeps.Sweep.the-variants.{Uncache, Start, Abort}
+use Rattle.page.specs.declared.sweeps.Sweep.the-variants.{Track, Start, Pause, Abort}
 use Rattle.page.proofs.MoveLaws.{swept-held}
 use Rattle.table.specs.Table.{pageCount, wordsAt, pageAt, sweepOf}
 use Rattle.table.proofs.Laws.{sweep-past, page-swept}
@@ -40,7 +40,8 @@ use Rattle.entry.proofs.Laws.{taken-either, exported-page}
 use Rattle.lists.specs.Run.{Standing, listRun}
 use Rattle.lists.proofs.Moves.{run-each}
 use Rattle.export.specs.Export.{exportStep}
-use Rattle.bundle.specs.Bundle.{Holding, absent, holds}
+use Rattle.bundle.specs.Bundle.{absent, holds}
+use Rattle.history.specs.History.{leaves}
 use Rattle.history.specs.Promises.{guestsStates, contentOf, content}
 
 -- ---- the moves of one page
@@ -48,15 +49,6 @@ use Rattle.history.specs.Promises.{guestsStates, contentOf, content}
 -- a change that keeps what the page holds
 abbrev Keeps : State → State → Type 0
 Keeps z to = (mark : ℕ) → contentOf to mark ≡ contentOf z mark
-
--- what a call that is done leaves the guest of its page
-abbrev pub leaves : Move → Holding → Holding
-leaves (Write mark) h = holds false mark
-leaves Add h = holds true 0
-leaves Accept h = holds false 0
-leaves Block h = h
-leaves Unblock h = h
-leaves Remove h = absent
 
 -- a state in which a write lands has a mark
 data-guests : (z : State) → (isIn z writableStates || isIn z landingStates) ≡ true → isIn z guestsStates ≡ true
@@ -96,8 +88,9 @@ unfolding unlessStrange
 sweep-content k p = either (λ (q : Page). content q ≡ content p) (strange p) (λ s. refl) (λ s. swept k)
   where
     swept : (k : Sweep) → content (sweptBy k p) ≡ content p
-    swept Uncache = refl
+    swept Track = refl
     swept Start = refl
+    swept Pause = refl
     swept Abort = abort-content (p .state) (p .mark)
 
 look-content : (z : State) → Keeps z (goesBy looks z)

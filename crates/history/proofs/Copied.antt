@@ -3,36 +3,39 @@
 use mathlib.Core.Path.{_≡_, refl, sym, subst}
 use mathlib.Core.Bool.{Bool, true, cond, false≢true}
 use mathlib.Core.List.{List, [], _∷_}
-use Prim.Native.Nat.{ℕ, _+_}
+use Prim.Native.Nat.{ℕ}
 use lib.Dec.{eqb}
 use lib.ListN.{length, replicate}
 use borrow.Author.Tests.{eqb-true}
 use Rattle.words.specs.Info.{infoOf}
 use Rattle.refusals.proofs.Laws.{either}
 use Rattle.page.specs.Page.{onWords}
-use Rattle.page.specs.Sweeps.{uncached, started, aborted}
+use Rattle.page.specs.Sweeps.{sweptBy}
 use Rattle.page.specs.declared.moves.Move.{Move}
-use Rattle.page.specs.declared.moves.Move.the-variants as move
-use Rattle.table.specs.Table.{pageCount, wordsAt, putAt, sweepOf}
-use Rattle.session.specs.Session.{among, guest, newSession, ticked, withClock, withPhase, withEpoch, withCheck, unchecked, begun}
+use Rattle.page.specs.declared.sweeps.Sweep.{Sweep}
+use Rattle.page.specs.declared.sweeps.Sweep.the-variants.{Track, Start, Pause, Abort}
+use Rattle.table.specs.Table.{pageCount, sweepOf}
+use Rattle.session.specs.Session.{among, guest, newSession}
 use Rattle.session.specs.Outcome.{Outcome, answered}
 use Rattle.session.specs.declared.Phase.{Phase}
 use Rattle.session.specs.declared.Phase.the-variants.{Idle, Live, Blackout, Done}
 use Rattle.session.specs.declared.Session.{Session}
 use Rattle.session.proofs.Laws.{answered-either, gate-open}
-use Rattle.memory.specs.Memory.{newCode, newOut, pageTurn, onPage, writeOut, addOut, acceptOut, blockOut, unblockOut, removeOut, trackCode, trackOut}
+use Rattle.memory.specs.Memory.{newCode, newOut, onPage}
 use Rattle.migration.proofs.Grant.{paused-is}
-use Rattle.migration.specs.Migration.{startCode, startOut, pauseCode, pauseOut, abortCode, abortOut, newEpochCode, newEpochOut, resetCode, resetOut}
+use Rattle.migration.specs.Migration.{sweepNext, sweepCode, onAll, aloneNext, aloneCode, onSession}
 use Rattle.migration.specs.Token.{tokenTests, tokenCode, tokenOut}
+use Rattle.migration.specs.declared.Alone.{Alone}
+use Rattle.migration.specs.declared.Alone.the-variants.{NewEpoch, Reset}
 use Rattle.scan.specs.Scan.{checkedBy, ScanOutcome, dscanOut, dcheckOut}
 use Rattle.scan.proofs.Outcomes.{answer-session, dscanned, dscan-either, dchecked, dcheck-either}
 use Rattle.export.specs.Export.{ExportOutcome, exportOut}
 use Rattle.export.proofs.Moves.{exported, export-either}
 use Rattle.calls.specs.Calls.{Effect}
 use Rattle.calls.specs.declared.Call.{Call}
-use Rattle.calls.specs.declared.Call.the-variants.{New, Write, Add, Accept, Block, Unblock, Remove, Track, Start, Pause, Abort, NewEpoch, Reset, StartToken, Dscan, Dcheck, Export}
+use Rattle.calls.specs.declared.Call.the-variants.{New, OnPage, OnAll, OnSession, StartToken, Dscan, Dcheck, Export}
 use Rattle.bundle.specs.Bundle.{Holding, nothing}
-use Rattle.history.specs.History.{Given, given, World, effectIn, accepted, rememberedBy, copiedBy, after, run}
+use Rattle.history.specs.History.{Given, given, World, effectIn, accepted, rememberedBy, takesCopy, copiedBy, after, run}
 use Rattle.history.proofs.Contents.{call-done}
 use Rattle.history.proofs.Exports.{finished-streams}
 
@@ -113,28 +116,25 @@ module _ (w : World) (l b : List ℕ) (h : Copied (w .session .phase) (w .memory
   abbrev left : Call → Effect
   left c = effectIn w (given c l b)
 
+  sweep-copied : (k : Sweep) → Copied (sweepNext k s .phase) (w .memory) (cond (takesCopy k) (w .memory) (w .copy))
+  sweep-copied Track = h
+  sweep-copied Start = λ x. absurd x
+  sweep-copied Pause = λ x i. refl
+  sweep-copied Abort = λ x. absurd x
+
+  alone-copied : (k : Alone) → Copied (aloneNext k s .phase) (w .memory) (w .copy)
+  alone-copied NewEpoch = h
+  alone-copied Reset = h
+
   call-copied : (c : Call) → Copied (after w (given c l b) .session .phase) (after w (given c l b) .memory) (after w (given c l b) .copy)
-  unfolding newOut writeOut addOut acceptOut blockOut unblockOut removeOut trackOut startOut pauseOut abortOut newEpochOut resetOut
+  unfolding newOut onAll onSession
   call-copied (New created) =
       answered-copied (newCode (length t) created) s t (newSession (pageCount t) created) (replicate (length t) 0) (w .memory) nothing (w .copy) (w .copy) h (λ e x. absurd x)
-  call-copied (Write page mark) = page-copied (move.Write mark) s t page (w .memory) (rememberedBy (Write page mark) (w .memory)) (w .copy) h
-  call-copied (Add page) = page-copied move.Add s t page (w .memory) (rememberedBy (Add page) (w .memory)) (w .copy) h
-  call-copied (Accept page) = page-copied move.Accept s t page (w .memory) (rememberedBy (Accept page) (w .memory)) (w .copy) h
-  call-copied (Block page) = page-copied move.Block s t page (w .memory) (w .memory) (w .copy) h
-  call-copied (Unblock page) = page-copied move.Unblock s t page (w .memory) (w .memory) (w .copy) h
-  call-copied (Remove page) = page-copied move.Remove s t page (w .memory) (rememberedBy (Remove page) (w .memory)) (w .copy) h
-  call-copied Track =
-      answered-copied (trackCode s (length t)) s t (withClock s (ticked (s .clock))) (sweepOf (onWords uncached) t) (w .memory) (w .memory) (w .copy) (w .copy) h (λ e. h)
-  call-copied Start =
-      answered-copied (startCode s t) s t (begun s Live 1) (sweepOf (onWords started) t) (w .memory) (w .memory) (w .copy) (w .copy) h (λ e x. absurd x)
-  call-copied Pause =
-      answered-copied (pauseCode s t) s t (withPhase s Blackout) (sweepOf (onWords uncached) t) (w .memory) (w .memory) (w .copy) (copiedBy Pause (w .memory) (w .copy)) h (λ e x i. refl)
-  call-copied Abort =
-      answered-copied (abortCode s (length t)) s t (begun s Idle 0) (sweepOf (onWords aborted) t) (w .memory) (w .memory) (w .copy) (w .copy) h (λ e x. absurd x)
-  call-copied NewEpoch =
-      answered-copied (newEpochCode s (length t)) s t (withEpoch s (s .epoch + 1)) t (w .memory) (w .memory) (w .copy) (w .copy) h (λ e. h)
-  call-copied Reset =
-      answered-copied (resetCode s (length t)) s t (withCheck s unchecked) t (w .memory) (w .memory) (w .copy) (w .copy) h (λ e. h)
+  call-copied (OnPage page m) = page-copied m s t page (w .memory) (rememberedBy (OnPage page m) (w .memory)) (w .copy) h
+  call-copied (OnAll k) =
+      answered-copied (sweepCode k s t) s t (sweepNext k s) (sweepOf (onWords (sweptBy k)) t) (w .memory) (w .memory) (w .copy) (copiedBy (OnAll k) (w .memory) (w .copy)) h (λ e. sweep-copied k)
+  call-copied (OnSession k) =
+      answered-copied (aloneCode k s (length t)) s t (aloneNext k s) t (w .memory) (w .memory) (w .copy) (w .copy) h (λ e. alone-copied k)
   call-copied StartToken =
       uncopied (left StartToken) (w .memory) (w .copy) (token-copied s t (w .memory) (w .copy) h)
   call-copied (Dscan first count budget) =

@@ -18,8 +18,8 @@ use Rattle.table.specs.Table.{legal, wordsAt, putAt, some}
 use Rattle.session.specs.Session.{workOf, withWork}
 use Rattle.session.specs.Formed.{busy, formed, gated}
 use Rattle.session.specs.Outcome.{answered}
-use Rattle.memory.specs.Memory.{newCode, newOut, onPage, writeOut, addOut, acceptOut, blockOut, unblockOut, removeOut, trackCode, trackOut}
-use Rattle.migration.specs.Migration.{startCode, startOut, pauseCode, pauseOut, abortCode, abortOut, newEpochCode, newEpochOut, resetCode, resetOut}
+use Rattle.memory.specs.Memory.{newCode, newOut, onPage}
+use Rattle.migration.specs.Migration.{sweepCode, onAll, aloneCode, onSession}
 use Rattle.migration.specs.Token.{tokenCode, inTheWay, tokenFor, tokenOut}
 use Rattle.scan.specs.Look.{listed, listedWord, renewed, lookOf}
 use Rattle.scan.specs.Scan.{stopCode, endCode, scanRun, rangeRun, answerOf, checkedBy, withinTable, dscanCode, dscanOut, dcheckCode, dcheckOut}
@@ -55,7 +55,7 @@ rising-means [] e = tt
 rising-means (x ∷ l) e = (from-means (x .epoch) l (and-left (from (x .epoch) l) (rising l) e), rising-means l (and-right (from (x .epoch) l) (rising l) e))
 
 pub met : Met
-unfolding recordOf recordWord plain entryOf entryWord infoOf infoWord stateOf isStrange isIn hasMove goesBy numberIn pageOf onWords tracked gives53 gives54 writable keptStamp legal wordsAt putAt some workOf withWork busy formed gated answered newCode newOut onPage writeOut addOut acceptOut blockOut unblockOut removeOut trackCode trackOut startCode startOut pauseCode pauseOut abortCode abortOut newEpochCode newEpochOut resetCode resetOut tokenCode inTheWay tokenFor tokenOut listed listedWord renewed lookOf stopCode endCode scanRun rangeRun answerOf checkedBy withinTable dscanCode dscanOut dcheckCode dcheckOut invalid unexportable statusOf answerWord sentEntry failedEntry takenOf counted stepped listRun infoBack exportCode groundOf macPages finishedBy exportOut
+unfolding recordOf recordWord plain entryOf entryWord infoOf infoWord stateOf isStrange isIn hasMove goesBy numberIn pageOf onWords tracked gives53 gives54 writable keptStamp legal wordsAt putAt some workOf withWork busy formed gated answered newCode newOut onPage sweepCode onAll aloneCode onSession tokenCode inTheWay tokenFor tokenOut listed listedWord renewed lookOf stopCode endCode scanRun rangeRun answerOf checkedBy withinTable dscanCode dscanOut dcheckCode dcheckOut invalid unexportable statusOf answerWord sentEntry failedEntry takenOf counted stepped exportCode groundOf macPages finishedBy exportOut listRun infoBack
 met =
     record {
       new = refl;

@@ -3,7 +3,7 @@
 use mathlib.Core.Path.{_≡_, refl, sym, ap, _∙_}
 use mathlib.Core.Bool.{true, true≢false}
 use mathlib.Core.List.{List, [], _∷_}
-use Prim.Native.Nat.{ℕ, _+_, _-_}
+use Prim.Native.Nat.{ℕ, _-_}
 use lib.Dec.{eqb, ltb}
 use lib.ListN.{length, replicate, length-set, length-replicate}
 use borrow.Author.Tests.{eqb-true}
@@ -11,25 +11,27 @@ use Rattle.words.specs.Info.{infoOf}
 use Rattle.words.specs.declared.infos.Info.{Info}
 use Rattle.refusals.proofs.Laws.{either}
 use Rattle.page.specs.Page.{onWords}
-use Rattle.page.specs.Sweeps.{uncached, started, aborted}
-use Rattle.page.specs.Page.{Page}
+use Rattle.page.specs.Sweeps.{sweptBy}
 use Rattle.page.specs.declared.moves.Move.{Move}
-use Rattle.page.specs.declared.moves.Move.the-variants as move
-use Rattle.table.specs.Table.{pageCount, wordsAt, putAt, sweepOf}
+use Rattle.page.specs.declared.sweeps.Sweep.{Sweep}
+use Rattle.page.specs.declared.sweeps.Sweep.the-variants.{Track, Start, Pause, Abort}
+use Rattle.table.specs.Table.{pageCount, sweepOf}
 use Rattle.table.proofs.Laws.{put-length, sweep-length}
-use Rattle.session.specs.Session.{streamPlaces, unchecked, newSession, begun, withPhase, ticked, withClock, withEpoch, withCheck, withWork, workOf}
+use Rattle.session.specs.Session.{streamPlaces, newSession, withPhase, withWork, workOf}
 use Rattle.session.specs.Formed.{formed}
-use Rattle.session.specs.Outcome.{Outcome, answered, answeredBy}
+use Rattle.session.specs.Outcome.{Outcome, answered}
 use Rattle.session.specs.declared.Phase.the-variants as phase
 use Rattle.session.specs.declared.Session.{Session}
 use Rattle.session.specs.declared.streams.Work.{Work}
 use Rattle.session.specs.declared.streams.Work.the-variants.{AtRest, Interrupted}
 use Rattle.session.proofs.Laws.{answered-either}
 use Rattle.session.proofs.FormedLaws.{Formed, formed-means, means-formed}
-use Rattle.memory.specs.Memory.{newCode, newOut, pageTurn, onPage, writeOut, addOut, acceptOut, blockOut, unblockOut, removeOut, trackCode, trackOut}
-use Rattle.memory.proofs.Laws.{track-room}
-use Rattle.migration.specs.Migration.{startCode, startOut, pauseCode, pauseOut, abortCode, abortOut, newEpochCode, newEpochOut, resetCode, resetOut}
+use Rattle.memory.specs.Memory.{newCode, newOut, onPage}
+use Rattle.migration.specs.Migration.{sweepNext, sweepCode, onAll, aloneNext, aloneCode, onSession}
 use Rattle.migration.specs.Token.{tokenCode, tokenOut}
+use Rattle.migration.specs.declared.Alone.{Alone}
+use Rattle.migration.specs.declared.Alone.the-variants.{NewEpoch, Reset}
+use Rattle.migration.proofs.Laws.{all-either, alone-either}
 use Rattle.scan.specs.Scan.{rangeRun, checkedBy, ScanOutcome, dscanOf, dcheckOf}
 use Rattle.scan.proofs.RangeLaws.{range-length}
 use Rattle.scan.proofs.Outcomes.{answer-session, dscan-either, dchecked, dcheck-either}
@@ -42,11 +44,10 @@ use Rattle.export.specs.declared.ExportAnswer.{ExportAnswer}
 use Rattle.export.proofs.Moves.{exported, export-either}
 use Rattle.calls.specs.Calls.{effectOf}
 use Rattle.calls.specs.declared.Call.{Call}
-use Rattle.calls.specs.declared.Call.the-variants.{New, Write, Add, Accept, Block, Unblock, Remove, Track, Start, Pause, Abort, NewEpoch, Reset, StartToken, Dscan, Dcheck, Export}
+use Rattle.calls.specs.declared.Call.the-variants.{New, OnPage, OnAll, OnSession, StartToken, Dscan, Dcheck, Export}
 use Rattle.history.specs.History.{Given, World, accepted, after, run, newEffect, newWorld, History, atEnd}
 use Rattle.history.specs.Promises.{StaysFormed}
-use Rattle.history.proofs.Sessions.{track-formed, start-formed, abort-formed, reset-formed}
-use Rattle.history.proofs.Accepted.{new-made, pause-made, epoch-made, token-made, check-made, export-made}
+use Rattle.history.proofs.Accepted.{new-made, sweep-made, alone-made, token-made, check-made, export-made}
 
 -- ---- every call
 
@@ -64,8 +65,17 @@ module _ (s : Session) (t : List ℕ) (f : formed s (length t) ≡ true) where
   unfolding onPage
   page-formed m at = answered-formed _ s _ (λ e. means) (put-length t at _)
 
-  swept-formed : (g : Page → Page) (code : ℕ) (s' : Session) → (code ≡ 0 → Formed s' (length t)) → formed (answeredBy g code s s' t .answer .session) (length (answeredBy g code s s' t .table)) ≡ true
-  swept-formed g code s' made = answered-formed code s' (sweepOf (onWords g) t) made (sweep-length (onWords g) t)
+  all-formed : (k : Sweep) → formed (onAll k s t .answer .session) (length (onAll k s t .table)) ≡ true
+  all-formed k =
+      all-either (λ (o : Outcome). formed (o .answer .session) (length (o .table)) ≡ true) k s t
+      (λ o. rw (sweep-length (onWords (sweptBy k)) t) (means-formed (sweepNext k s) (length t) (sweep-made k s (length t) _ o)))
+      (λ e. f)
+
+  session-formed : (k : Alone) → formed (onSession k s t .answer .session) (length (onSession k s t .table)) ≡ true
+  session-formed k =
+      alone-either (λ (o : Outcome). formed (o .answer .session) (length (o .table)) ≡ true) k s t
+      (λ o. means-formed (aloneNext k s) (length t) (alone-made k s (length t) o))
+      (λ e. f)
 
   granted-formed : formed (tokenOut s t .session) (length t) ≡ true
   unfolding tokenOut
@@ -75,21 +85,12 @@ module _ (s : Session) (t : List ℕ) (f : formed s (length t) ≡ true) where
       (λ e. f)
 
   call-formed : (l b : List ℕ) (c : Call) → formed (effectOf c s t l b .returned .session) (length (effectOf c s t l b .table)) ≡ true
-  unfolding newOut writeOut addOut acceptOut blockOut unblockOut removeOut trackOut startOut pauseOut abortOut newEpochOut resetOut checkedBy exportOut
+  unfolding newOut checkedBy exportOut
   call-formed l b (New created) =
       answered-formed (newCode (length t) created) (newSession (pageCount t) created) (replicate (length t) 0) (new-made (length t) created) (length-replicate (length t) 0)
-  call-formed l b (Write page mark) = page-formed (move.Write mark) page
-  call-formed l b (Add page) = page-formed move.Add page
-  call-formed l b (Accept page) = page-formed move.Accept page
-  call-formed l b (Block page) = page-formed move.Block page
-  call-formed l b (Unblock page) = page-formed move.Unblock page
-  call-formed l b (Remove page) = page-formed move.Remove page
-  call-formed l b Track = swept-formed uncached (trackCode s (length t)) (withClock s (ticked (s .clock))) (λ e. track-formed means (track-room s (length t) e))
-  call-formed l b Start = swept-formed started (startCode s t) (begun s phase.Live 1) (λ e. start-formed means)
-  call-formed l b Pause = swept-formed uncached (pauseCode s t) (withPhase s phase.Blackout) (pause-made s t)
-  call-formed l b Abort = swept-formed aborted (abortCode s (length t)) (begun s phase.Idle 0) (λ e. abort-formed means)
-  call-formed l b NewEpoch = answered-formed (newEpochCode s (length t)) (withEpoch s (s .epoch + 1)) t (epoch-made s t) refl
-  call-formed l b Reset = answered-formed (resetCode s (length t)) (withCheck s unchecked) t (λ e. reset-formed means) refl
+  call-formed l b (OnPage page m) = page-formed m page
+  call-formed l b (OnAll k) = all-formed k
+  call-formed l b (OnSession k) = session-formed k
   call-formed l b StartToken = granted-formed
   call-formed l b (Dscan first count budget) =
       dscan-either s t l first count budget (λ (o : ScanOutcome). formed (o .answer .session) (length (o .table)) ≡ true)
@@ -124,8 +125,15 @@ module _ (s : Session) (t : List ℕ) (n : length (s .streams) ≡ streamPlaces)
   unfolding onPage
   page-streams m at = answered-streams _ s _ n
 
-  swept-streams : (g : Page → Page) (code : ℕ) (s' : Session) → length (s' .streams) ≡ streamPlaces → length (answeredBy g code s s' t .answer .session .streams) ≡ streamPlaces
-  swept-streams g code s' made = answered-streams code s' (sweepOf (onWords g) t) made
+  sweep-streams : (k : Sweep) → length (sweepNext k s .streams) ≡ streamPlaces
+  sweep-streams Track = n
+  sweep-streams Start = refl
+  sweep-streams Pause = n
+  sweep-streams Abort = refl
+
+  alone-streams : (k : Alone) → length (aloneNext k s .streams) ≡ streamPlaces
+  alone-streams NewEpoch = n
+  alone-streams Reset = n
 
   token-streams : length (tokenOut s t .session .streams) ≡ streamPlaces
   unfolding tokenOut
@@ -141,20 +149,11 @@ module _ (s : Session) (t : List ℕ) (n : length (s .streams) ≡ streamPlaces)
       either (λ (a : ExportAnswer). length (a .session .streams) ≡ streamPlaces) (isOver x (at .next)) (λ e. run-streams stream AtRest) (λ e. run-streams stream (Interrupted (at .next) (x .last) (at .errors) (at .filled)))
 
   call-streams : (l b : List ℕ) (c : Call) → length (effectOf c s t l b .returned .session .streams) ≡ streamPlaces
-  unfolding newOut writeOut addOut acceptOut blockOut unblockOut removeOut trackOut startOut pauseOut abortOut newEpochOut resetOut checkedBy
+  unfolding newOut onAll onSession checkedBy
   call-streams l b (New created) = answered-streams (newCode (length t) created) (newSession (pageCount t) created) (replicate (length t) 0) refl
-  call-streams l b (Write page mark) = page-streams (move.Write mark) page
-  call-streams l b (Add page) = page-streams move.Add page
-  call-streams l b (Accept page) = page-streams move.Accept page
-  call-streams l b (Block page) = page-streams move.Block page
-  call-streams l b (Unblock page) = page-streams move.Unblock page
-  call-streams l b (Remove page) = page-streams move.Remove page
-  call-streams l b Track = swept-streams uncached (trackCode s (length t)) (withClock s (ticked (s .clock))) n
-  call-streams l b Start = swept-streams started (startCode s t) (begun s phase.Live 1) refl
-  call-streams l b Pause = swept-streams uncached (pauseCode s t) (withPhase s phase.Blackout) n
-  call-streams l b Abort = swept-streams aborted (abortCode s (length t)) (begun s phase.Idle 0) refl
-  call-streams l b NewEpoch = answered-streams (newEpochCode s (length t)) (withEpoch s (s .epoch + 1)) t n
-  call-streams l b Reset = answered-streams (resetCode s (length t)) (withCheck s unchecked) t n
+  call-streams l b (OnPage page m) = page-streams m page
+  call-streams l b (OnAll k) = answered-streams (sweepCode k s t) (sweepNext k s) (sweepOf (onWords (sweptBy k)) t) (sweep-streams k)
+  call-streams l b (OnSession k) = answered-streams (aloneCode k s (length t)) (aloneNext k s) t (alone-streams k)
   call-streams l b StartToken = token-streams
   call-streams l b (Dscan first count budget) =
       dscan-either s t l first count budget (λ (o : ScanOutcome). length (o .answer .session .streams) ≡ streamPlaces)

@@ -3,32 +3,28 @@
 use mathlib.Core.Path.{_≡_, refl, sym, ap, _∙_}
 use mathlib.Core.Bool.{Bool, true, false, cond, true≢false}
 use mathlib.Core.List.{List, [], _∷_}
-use Prim.Native.Nat.{ℕ, _+_, _-_}
+use Prim.Native.Nat.{ℕ, _-_}
 use lib.Dec.{eqb}
 use lib.ListN.{length, replicate}
 use borrow.Author.Tests.{eqb-true, eqb-false}
 use Rattle.words.specs.Info.{infoOf}
 use Rattle.refusals.proofs.Laws.{either}
 use Rattle.page.specs.Page.{pageOf}
-use Rattle.page.specs.Page.{onWords}
-use Rattle.page.specs.Sweeps.{sweptBy}
 use Rattle.page.specs.declared.PageWords.{PageWords}
 use Rattle.page.specs.declared.moves.Move.{Move}
-use Rattle.page.specs.declared.moves.Move.the-variants as move
 use Rattle.page.specs.declared.sweeps.Sweep.{Sweep}
-use Rattle.page.specs.declared.sweeps.Sweep.the-variants as sweep
-use Rattle.table.specs.Table.{pageCount, wordsAt, pageAt, putAt, sweepOf}
-use Rattle.session.specs.Session.{moving, newSession, ticked, withClock, withPhase, workOf, begun}
+use Rattle.table.specs.Table.{pageCount, pageAt}
+use Rattle.session.specs.Session.{moving, newSession, workOf}
 use Rattle.session.specs.Outcome.{Outcome, answered}
-use Rattle.session.specs.declared.Phase.the-variants.{Idle, Live, Blackout}
+use Rattle.session.specs.declared.Phase.the-variants.{Live, Blackout}
 use Rattle.session.specs.declared.Session.{Session}
 use Rattle.session.proofs.Laws.{answered-either, gate-open}
 use Rattle.session.proofs.FormedLaws.{tlb-fits, epoch-fits}
-use Rattle.memory.specs.Memory.{newCode, newOut, pageTurn, onPage, writeOut, addOut, acceptOut, blockOut, unblockOut, removeOut, trackCode, trackOut}
+use Rattle.memory.specs.Memory.{newCode, newOut, onPage}
 use Rattle.memory.proofs.Laws.{page-done, page-other}
-use Rattle.migration.specs.Migration.{startCode, startOut, pauseCode, pauseOut, abortCode, abortOut, newEpochOut, resetOut}
+use Rattle.migration.specs.Migration.{onAll}
 use Rattle.migration.specs.Token.{tokenCode, tokenOut}
-use Rattle.migration.proofs.Laws.{token-number, new-epoch-table, reset-table}
+use Rattle.migration.proofs.Laws.{token-number, all-either, alone-table}
 use Rattle.scan.specs.Scan.{ScanOutcome, dscanTests, dscanCode, dscanOf, dscanOut, dcheckTests, dcheckCode, dcheckOf, dcheckOut}
 use Rattle.scan.proofs.Laws.{dscan-fits, dcheck-fits}
 use Rattle.scan.proofs.Outcomes.{dscan-either, dcheck-either}
@@ -36,12 +32,12 @@ use Rattle.lists.specs.Run.{standing}
 use Rattle.export.specs.Export.{exportTests, exportCode, groundOf, begunBy, ExportOutcome, exportOut}
 use Rattle.calls.specs.Calls.{Effect}
 use Rattle.calls.specs.declared.Call.{Call}
-use Rattle.calls.specs.declared.Call.the-variants.{New, Write, Add, Accept, Block, Unblock, Remove, Track, Start, Pause, Abort, NewEpoch, Reset, StartToken, Dscan, Dcheck, Export}
+use Rattle.calls.specs.declared.Call.the-variants.{New, OnPage, OnAll, OnSession, StartToken, Dscan, Dcheck, Export}
 use Rattle.bundle.specs.Bundle.{Holding, nothing}
-use Rattle.history.specs.History.{Given, given, World, effectIn, accepted, rememberedBy, after, run, newWorld, History, atEnd}
+use Rattle.history.specs.History.{Given, given, World, effectIn, accepted, holding, leaves, after, run, newWorld, History, atEnd}
 use Rattle.history.specs.Earning.{granted}
 use Rattle.history.specs.Promises.{content, Remembers}
-use Rattle.history.proofs.Contents.{call-done, leaves, step-content, new-content, swept-content, range-content, export-run-content}
+use Rattle.history.proofs.Contents.{call-done, step-content, new-content, swept-content, range-content, export-run-content}
 use Rattle.history.proofs.Copied.{token-paused, run-copied}
 
 -- ---- the table
@@ -63,32 +59,25 @@ module _ (code : ℕ) (s : Session) (t : List ℕ) (s' : Session) (t' : List ℕ
       (λ q f. rw q h)
 
 -- a call on a page notes of its page what its step leaves there, and of the others what was noted
-module _ (m : Move) (s : Session) (t : List ℕ) (at : ℕ) (n n' : ℕ → Holding) (h : Holds t n) (notes : (i : ℕ) → n' i ≡ cond (eqb at i) (leaves m (n i)) (n i)) where
-  done-holds : eqb (onPage m s t at .answer .code) 0 ≡ true → Holds (onPage m s t at .table) n'
-  done-holds e i = go (eqb at i) refl (notes i)
+module _ (m : Move) (s : Session) (t : List ℕ) (at : ℕ) (n : ℕ → Holding) (h : Holds t n) where
+  done-holds : eqb (onPage m s t at .answer .code) 0 ≡ true → Holds (onPage m s t at .table) (holding n at (leaves m (n at)))
+  done-holds e i = go (eqb at i) refl
     where
       here : content (pageAt (onPage m s t at .table) at) ≡ leaves m (n at)
       here =
           ap content (page-done m s t at (eqb-true _ _ e)) ∙ step-content m (pageAt t at) (s .clock) (call-done m s t at e .moves) ∙ ap (leaves m) (h at)
 
-      go : (b : Bool) → eqb at i ≡ b → n' i ≡ cond b (leaves m (n i)) (n i) → content (pageAt (onPage m s t at .table) i) ≡ n' i
-      go true q x = ap (λ (k : ℕ). content (pageAt (onPage m s t at .table) k)) (sym (eqb-true at i q)) ∙ here ∙ ap (λ (k : ℕ). leaves m (n k)) (eqb-true at i q) ∙ sym x
-      go false q x = ap (λ (w : PageWords). content (pageOf w)) (page-other m s t at i (λ p. eqb-false at i q (sym p))) ∙ h i ∙ sym x
+      go : (b : Bool) → eqb at i ≡ b → content (pageAt (onPage m s t at .table) i) ≡ cond b (leaves m (n at)) (n i)
+      go true q = ap (λ (k : ℕ). content (pageAt (onPage m s t at .table) k)) (sym (eqb-true at i q)) ∙ here
+      go false q = ap (λ (w : PageWords). content (pageOf w)) (page-other m s t at i (λ p. eqb-false at i q (sym p))) ∙ h i
 
-  page-holds : Holds (onPage m s t at .table) (cond (eqb (onPage m s t at .answer .code) 0) n' n)
+  page-holds : Holds (onPage m s t at .table) (cond (eqb (onPage m s t at .answer .code) 0) (holding n at (leaves m (n at))) n)
   unfolding onPage
-  page-holds = answered-holds _ s t s _ n n' h done-holds
+  page-holds = answered-holds _ s t s _ n (holding n at (leaves m (n at))) h done-holds
 
--- block and unblock note nothing
-unmoved : (n : ℕ → Holding) (at i : ℕ) → n i ≡ cond (eqb at i) (n i) (n i)
-unmoved n at i = either (λ (x : Holding). n i ≡ x) (eqb at i) (λ q. refl) (λ q. refl)
-
--- a call that moves every page
-sweep-holds : (k : Sweep) (code : ℕ) (s s' : Session) (t : List ℕ) (m : ℕ → Holding) → Holds t m → Holds (answered code s t s' (sweepOf (onWords (sweptBy k)) t) .table) m
-sweep-holds k code s s' t m h =
-    answered-either (λ (o : Outcome). Holds (o .table) m) code s t s' (sweepOf (onWords (sweptBy k)) t)
-    (λ q i. swept-content k t i ∙ h i)
-    (λ q. h)
+-- a call on every page
+all-holds : (k : Sweep) (s : Session) (t : List ℕ) (m : ℕ → Holding) → Holds t m → Holds (onAll k s t .table) m
+all-holds k s t m h = all-either (λ (o : Outcome). Holds (o .table) m) k s t (λ o i. swept-content k t i ∙ h i) (λ e. h)
 
 new-holds : (s : Session) (t : List ℕ) (created : ℕ) → eqb (newOut s t created .answer .code) 0 ≡ true → Holds (newOut s t created .table) nothing
 unfolding newOut
@@ -138,25 +127,12 @@ module _ (w : World) (l b : List ℕ) (h : Holds (w .table) (w .memory)) where
   left c = effectIn w (given c l b)
 
   call-holds : (c : Call) → Holds (after w (given c l b) .table) (after w (given c l b) .memory)
-  unfolding newOut writeOut addOut acceptOut blockOut unblockOut removeOut trackOut startOut pauseOut abortOut newEpochOut resetOut
+  unfolding newOut
   call-holds (New created) =
       answered-holds (newCode (length t) created) s t (newSession (pageCount t) created) (replicate (length t) 0) (w .memory) nothing h (new-holds s t created)
-  call-holds (Write page mark) = page-holds (move.Write mark) s t page (w .memory) (rememberedBy (Write page mark) (w .memory)) h (λ i. refl)
-  call-holds (Add page) = page-holds move.Add s t page (w .memory) (rememberedBy (Add page) (w .memory)) h (λ i. refl)
-  call-holds (Accept page) = page-holds move.Accept s t page (w .memory) (rememberedBy (Accept page) (w .memory)) h (λ i. refl)
-  call-holds (Block page) = page-holds move.Block s t page (w .memory) (w .memory) h (unmoved (w .memory) page)
-  call-holds (Unblock page) = page-holds move.Unblock s t page (w .memory) (w .memory) h (unmoved (w .memory) page)
-  call-holds (Remove page) = page-holds move.Remove s t page (w .memory) (rememberedBy (Remove page) (w .memory)) h (λ i. refl)
-  call-holds Track =
-      unnoted (left Track) (w .memory) (sweep-holds sweep.Uncache (trackCode s (length t)) s (withClock s (ticked (s .clock))) t (w .memory) h)
-  call-holds Start =
-      unnoted (left Start) (w .memory) (sweep-holds sweep.Start (startCode s t) s (begun s Live 1) t (w .memory) h)
-  call-holds Pause =
-      unnoted (left Pause) (w .memory) (sweep-holds sweep.Uncache (pauseCode s t) s (withPhase s Blackout) t (w .memory) h)
-  call-holds Abort =
-      unnoted (left Abort) (w .memory) (sweep-holds sweep.Abort (abortCode s (length t)) s (begun s Idle 0) t (w .memory) h)
-  call-holds NewEpoch = unnoted (left NewEpoch) (w .memory) (rw (new-epoch-table s t) h)
-  call-holds Reset = unnoted (left Reset) (w .memory) (rw (reset-table s t) h)
+  call-holds (OnPage page m) = page-holds m s t page (w .memory) h
+  call-holds (OnAll k) = unnoted (left (OnAll k)) (w .memory) (all-holds k s t (w .memory) h)
+  call-holds (OnSession k) = unnoted (left (OnSession k)) (w .memory) (rw (alone-table k s t) h)
   call-holds StartToken = unnoted (left StartToken) (w .memory) h
   call-holds (Dscan first count budget) = unnoted (left (Dscan first count budget)) (w .memory) (dscan-holds s t l first count budget (w .memory) h)
   call-holds (Dcheck budget) = unnoted (left (Dcheck budget)) (w .memory) (dcheck-holds s t l budget (w .memory) h)

@@ -1,36 +1,28 @@
 -- The invariant of a world, and that every call keeps it: the log is in order, whatever the phase; and since the last start it says what the destination has of
 -- each page.
-use mathlib.Core.Path.{_≡_, refl, sym, _∙_}
+use mathlib.Core.Path.{_≡_, sym, _∙_}
 use mathlib.Core.Bool.{true, false≢true}
 use mathlib.Core.List.{List, [], _∷_}
 use Prim.Native.Nat.{ℕ, _<_}
 use lib.Dec.{eqb}
 use lib.ListN.{length, replicate}
-use borrow.Author.Tests.{eqb-true}
 use Rattle.words.specs.Codes as codes
-use Rattle.refusals.specs.Refusals.{_gives_}
-use Rattle.page.specs.Page.{unstartable}
-use Rattle.page.specs.declared.moves.Move.the-variants as move
-use Rattle.page.specs.declared.sweeps.Sweep.the-variants as sweep
-use Rattle.table.specs.Table.{pageCount, pageAt, some}
-use Rattle.table.proofs.Laws.{some-none}
-use Rattle.session.specs.Session.{begun, newSession}
+use Rattle.refusals.proofs.Laws.{either}
+use Rattle.table.specs.Table.{pageCount, pageAt}
+use Rattle.session.specs.Session.{newSession}
 use Rattle.session.specs.Outcome.{Outcome}
-use Rattle.session.specs.declared.Phase.the-variants.{Idle, Live}
 use Rattle.session.specs.declared.Session.{Session}
-use Rattle.session.proofs.Laws.{answered-either, gate-open}
-use Rattle.memory.specs.Memory.{newCode, newOut, writeOut, addOut, acceptOut, blockOut, unblockOut, removeOut}
-use Rattle.migration.specs.Migration.{startCode, startOut}
+use Rattle.session.proofs.Laws.{answered-either}
+use Rattle.memory.specs.Memory.{newCode, newOut}
+use Rattle.migration.proofs.Laws.{all-either}
 use Rattle.calls.specs.Calls.{effect}
 use Rattle.calls.specs.declared.Call.{Call}
-use Rattle.calls.specs.declared.Call.the-variants.{New, Write, Add, Accept, Block, Unblock, Remove, Track, Start, Pause, Abort, NewEpoch, Reset, StartToken, Dscan, Dcheck, Export}
+use Rattle.calls.specs.declared.Call.the-variants.{New, OnPage, OnAll, OnSession, StartToken, Dscan, Dcheck, Export}
 use Rattle.bundle.specs.Bundle.{Holding}
-use Rattle.history.specs.History.{Given, given, World, leftBy, after, run, newWorld, History, atEnd}
+use Rattle.history.specs.History.{Given, given, World, beginsLog, leftBy, after, run, newWorld, History, atEnd}
 use Rattle.history.proofs.Pages.{Ok, momentOf}
-use Rattle.history.proofs.Sweeps.{started-ok}
-use Rattle.history.proofs.Rows.{swept, rows-anew}
-use Rattle.history.proofs.Logs.{Orderly, orderly-none, fine-none}
-use Rattle.history.proofs.Stands.{since, Stands, anew-stands, new-stands, page-stands, track-stands, pause-stands, abort-stands, epoch-stands, reset-stands, token-stands, dscan-stands, dcheck-stands}
+use Rattle.history.proofs.Logs.{Orderly, orderly-none}
+use Rattle.history.proofs.Stands.{Stands, anew-stands, new-stands, page-stands, sweep-stands, alone-stands, token-stands, dscan-stands, dcheck-stands}
 use Rattle.history.proofs.Exports.{export-logged}
 
 pub record Sound (w : World) : Type 0 where
@@ -39,44 +31,15 @@ pub record Sound (w : World) : Type 0 where
 
 -- ---- every call
 
--- a start that is accepted begins a new log
-start-sound : (w : World) (l b : List ℕ) → Sound w → Sound (after w (given Start l b))
-unfolding startOut startCode
-start-sound w l b f =
-    answered-either (λ (o : Outcome). Sound (leftBy w (given Start l b) (effect o l b))) (startCode s t) s t (begun s Live 1) (swept sweep.Start t)
-    (λ e.
-    let o = gate-open s (length t) (Idle ∷ []) (some unstartable t gives codes.eptEntryStateIncorrect ∷ []) refl (eqb-true _ _ e) in
-    record {
-      orderly = rw e orderly-none;
-      fine = rw e
-          (fine-none (rows-anew sweep.Start (momentOf s) (momentOf (begun s Live 1)) (since (s .phase) (w .log)) t
-          (λ i h v k. started-ok (momentOf s) (momentOf (begun s Live 1)) (pageAt t i) (some-none unstartable t (o .passed .0) i h) refl refl v k)
-          (f .fine .rows)));
-    })
-    (λ e. record { orderly = rw e (f .orderly); fine = rw e (f .fine) })
-  where
-    s : Session
-    s = w .session
-
-    t : List ℕ
-    t = w .table
-
 module _ (w : World) (l b : List ℕ) (f : Sound w) where
   call-sound : (c : Call) → Sound (after w (given c l b))
-  unfolding writeOut addOut acceptOut blockOut unblockOut removeOut
   call-sound (New created) = record { orderly = f .orderly; fine = new-stands (w .session) (w .table) (w .log) (f .fine) created }
-  call-sound (Write page mark) = record { orderly = f .orderly; fine = page-stands (w .session) (w .table) (w .log) (f .fine) (move.Write mark) page }
-  call-sound (Add page) = record { orderly = f .orderly; fine = page-stands (w .session) (w .table) (w .log) (f .fine) move.Add page }
-  call-sound (Accept page) = record { orderly = f .orderly; fine = page-stands (w .session) (w .table) (w .log) (f .fine) move.Accept page }
-  call-sound (Block page) = record { orderly = f .orderly; fine = page-stands (w .session) (w .table) (w .log) (f .fine) move.Block page }
-  call-sound (Unblock page) = record { orderly = f .orderly; fine = page-stands (w .session) (w .table) (w .log) (f .fine) move.Unblock page }
-  call-sound (Remove page) = record { orderly = f .orderly; fine = page-stands (w .session) (w .table) (w .log) (f .fine) move.Remove page }
-  call-sound Track = record { orderly = f .orderly; fine = track-stands (w .session) (w .table) (w .log) (f .fine) }
-  call-sound Start = start-sound w l b f
-  call-sound Pause = record { orderly = f .orderly; fine = pause-stands (w .session) (w .table) (w .log) (f .fine) }
-  call-sound Abort = record { orderly = f .orderly; fine = abort-stands (w .session) (w .table) (w .log) (f .fine) }
-  call-sound NewEpoch = record { orderly = f .orderly; fine = epoch-stands (w .session) (w .table) (w .log) (f .fine) }
-  call-sound Reset = record { orderly = f .orderly; fine = reset-stands (w .session) (w .table) (w .log) (f .fine) }
+  call-sound (OnPage page m) = record { orderly = f .orderly; fine = page-stands (w .session) (w .table) (w .log) (f .fine) m page }
+  call-sound (OnAll k) =
+      all-either (λ (o : Outcome). Sound (leftBy w (given (OnAll k) l b) (effect o l b))) k (w .session) (w .table)
+      (λ o. record { orderly = either Orderly (beginsLog k) (λ q. orderly-none) (λ q. f .orderly); fine = sweep-stands (w .session) (w .table) (w .log) (f .fine) k o })
+      (λ e. record { orderly = rw e (f .orderly); fine = rw e (f .fine) })
+  call-sound (OnSession k) = record { orderly = f .orderly; fine = alone-stands (w .session) (w .table) (w .log) (f .fine) k }
   call-sound StartToken = record { orderly = f .orderly; fine = token-stands (w .session) (w .table) (w .log) (f .fine) }
   call-sound (Dscan first count budget) = record { orderly = f .orderly; fine = dscan-stands (w .session) (w .table) (w .log) (f .fine) l first count budget }
   call-sound (Dcheck budget) = record { orderly = f .orderly; fine = dcheck-stands (w .session) (w .table) (w .log) (f .fine) l budget }

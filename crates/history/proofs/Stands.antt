@@ -1,42 +1,45 @@
 -- The calls that make no entry: each steps every page, or makes every page anew with nothing at the destination.
 use mathlib.Core.Path.{_≡_, refl}
+use mathlib.Core.Bool.{cond}
 use mathlib.Core.List.{List, [], _∷_}
 use Prim.Native.Nat.{ℕ, _+_, _-_, _*_, _^_, _≤_, _<_}
 use native.Mathlib.Omega.{arith}
 use lib.Dec.{eqb}
 use lib.ListN.{length, replicate}
 use borrow.Author.Tests.{eqb-true}
-use Rattle.words.specs.Codes as codes
-use Rattle.refusals.specs.Refusals.{_gives_}
 use Rattle.refusals.proofs.Laws.{either}
 use Rattle.states.specs.States.{isStrange, isIn}
-use Rattle.page.specs.Page.{blocked}
+use Rattle.page.specs.Page.{blocked, unstartable}
 use Rattle.page.specs.declared.moves.Move.{Move}
-use Rattle.page.specs.declared.sweeps.Sweep.the-variants as sweep
-use Rattle.table.specs.Table.{pageCount, wordsAt, pageAt, putAt, some}
+use Rattle.page.specs.declared.sweeps.Sweep.{Sweep}
+use Rattle.page.specs.declared.sweeps.Sweep.the-variants.{Track, Start, Pause, Abort}
+use Rattle.table.specs.Table.{pageCount, pageAt}
 use Rattle.table.proofs.Laws.{some-none}
-use Rattle.session.specs.Session.{guest, begun, withPhase, ticked, withClock, withEpoch, withCheck, unchecked, newSession}
-use Rattle.session.specs.Formed.{busy}
+use Rattle.session.specs.Session.{phasesOf, begun, withPhase, newSession}
 use Rattle.session.specs.Outcome.{Outcome}
 use Rattle.session.specs.declared.Phase.{Phase}
 use Rattle.session.specs.declared.Phase.the-variants.{Idle, Live, Blackout, Done}
 use Rattle.session.specs.declared.Session.{Session}
-use Rattle.session.proofs.Laws.{answered-either, gate-open}
+use Rattle.session.proofs.Laws.{Open, answered-either, gate-open}
 use Rattle.session.proofs.FormedLaws.{tlb-fits}
-use Rattle.memory.specs.Memory.{newCode, newOut, onPage, trackTests, trackCode, trackOut}
+use Rattle.memory.specs.Memory.{newCode, newOut, onPage}
 use Rattle.memory.proofs.Laws.{page-either}
-use Rattle.migration.specs.Migration.{pauseCode, pauseOut, abortCode, abortOut, newEpochCode, newEpochOut, resetCode, resetOut}
+use Rattle.migration.specs.Migration.{sweepWhen, stopsAt, stopped, sweepTests, sweepNext, aloneNext, onSession}
 use Rattle.migration.specs.Token.{tokenTests, tokenCode, tokenOut}
+use Rattle.migration.specs.declared.Alone.{Alone}
+use Rattle.migration.specs.declared.Alone.the-variants.{NewEpoch, Reset}
+use Rattle.migration.proofs.Laws.{alone-either}
 use Rattle.scan.specs.Scan.{rangeRun, checkedBy, ScanOutcome, dscanTests, dscanCode, dscanOf, dscanOut, dcheckTests, dcheckCode, dcheckOf, dcheckOut}
 use Rattle.scan.specs.declared.Scan.{Scan}
 use Rattle.scan.proofs.Laws.{dscan-fits, dcheck-fits}
 use Rattle.scan.proofs.Outcomes.{answer-session, dscanned, dscan-either, dchecked, dcheck-either}
 use Rattle.bundle.specs.Bundle.{absent, Sent}
 use Rattle.bundle.proofs.Replay.{past-none}
+use Rattle.history.specs.History.{beginsLog}
 use Rattle.history.proofs.Pages.{momentOf}
 use Rattle.history.proofs.Moves.{still-guest}
 use Rattle.history.proofs.Contents.{zero-page}
-use Rattle.history.proofs.Sweeps.{uncached-step, session-step, aborted-ok}
+use Rattle.history.proofs.Sweeps.{uncached-step, session-step, started-ok, aborted-ok}
 use Rattle.history.proofs.Sessions.{not-idle}
 use Rattle.history.proofs.Rows.{page-steps, swept, sweep-steps, scan-steps, rows-anew}
 use Rattle.history.proofs.Logs.{Fine, fine-steps, fine-none}
@@ -94,46 +97,33 @@ module _ (s : Session) (t : List ℕ) (log : List Sent) (f : Stands s t log) whe
   pub page-stands : (m : Move) (at : ℕ) → Leaves log (onPage m s t at)
   page-stands m at = rw (page-session m s t at) (fine-steps (omega arith) (page-steps m s t at) f)
 
-  pub track-stands : Leaves log (trackOut s t)
-  unfolding trackOut trackCode
-  track-stands =
-      answered-either (Leaves log) (trackCode s (length t)) s t (withClock s (ticked (s .clock))) (swept sweep.Uncache t)
-      (λ e.
-      let o = gate-open s (length t) guest (trackTests s) refl (eqb-true _ _ e) in
-      fine-steps (omega arith) (sweep-steps sweep.Uncache _ _ t (λ i h. uncached-step _ _ (pageAt t i) (omega arith) (λ u. still-guest (s .phase) (o .comes) _ _))) f)
-      (λ e. f)
-
   -- ---- of the migration
 
-  pub pause-stands : Leaves log (pauseOut s t)
-  unfolding pauseOut pauseCode
-  pause-stands =
-      answered-either (Leaves log) (pauseCode s t) s t (withPhase s Blackout) (swept sweep.Uncache t)
-      (λ e.
-      let o = gate-open s (length t) (Live ∷ []) (some blocked t gives codes.blockedMemoryExists ∷ busy s gives codes.operandBusy ∷ []) refl (eqb-true _ _ e) in
+  -- what a call on every page makes: a start begins a new log
+  pub sweep-stands : (k : Sweep) → Open s (length t) (phasesOf (sweepWhen k)) (sweepTests k s (stopped (stopsAt k) t)) → Stands (sweepNext k s) (swept k t) (cond (beginsLog k) [] log)
+  sweep-stands Track o =
+      fine-steps (omega arith) (sweep-steps Track _ _ t (λ i h. uncached-step _ _ (pageAt t i) (omega arith) (λ u. still-guest (s .phase) (o .comes) _ _))) f
+  sweep-stands Start o =
+      fine-none
+      (rows-anew Start (momentOf s) (momentOf (begun s Live 1)) (since (s .phase) log) t
+      (λ i h v k. started-ok (momentOf s) (momentOf (begun s Live 1)) (pageAt t i) (some-none unstartable t (o .passed .0) i h) refl refl v k)
+      (f .rows))
+  sweep-stands Pause o =
       fine-steps (omega arith)
-      (sweep-steps sweep.Uncache _ _ t (λ i h. uncached-step _ _ (pageAt t i) (omega arith) (λ u. (refl, some-none blocked t (o .passed .0) i h))))
-      (rw (since-begun (s .phase) log (not-idle (Live ∷ []) (s .phase) refl (o .comes))) at f))
-      (λ e. f)
+      (sweep-steps Pause _ _ t (λ i h. uncached-step _ _ (pageAt t i) (omega arith) (λ u. (refl, some-none blocked t (o .passed .0) i h))))
+      (rw (since-begun (s .phase) log (not-idle (Live ∷ []) (s .phase) refl (o .comes))) at f)
+  sweep-stands Abort o =
+      fine-none
+      (rows-anew Abort (momentOf s) (momentOf (begun s Idle 0)) (since (s .phase) log) t
+      (λ i h v k. aborted-ok (momentOf s) (momentOf (begun s Idle 0)) (pageAt t i) refl refl v k)
+      (f .rows))
 
-  pub abort-stands : Leaves log (abortOut s t)
-  unfolding abortOut
-  abort-stands =
-      answered-either (Leaves log) (abortCode s (length t)) s t (begun s Idle 0) (swept sweep.Abort t)
-      (λ e. fine-none (rows-anew sweep.Abort (momentOf s) (momentOf (begun s Idle 0)) (since (s .phase) log) t (λ i h v o. aborted-ok (momentOf s) (momentOf (begun s Idle 0)) (pageAt t i) refl refl v o) (f .rows)))
-      (λ e. f)
+  next-stands : (k : Alone) → Stands (aloneNext k s) t log
+  next-stands NewEpoch = fine-steps (omega arith) (record { size = refl; at = λ i h. session-step _ _ (pageAt t i) (omega arith) refl (λ u. u) }) f
+  next-stands Reset = f
 
-  pub epoch-stands : Leaves log (newEpochOut s t)
-  unfolding newEpochOut
-  epoch-stands =
-      answered-either (Leaves log) (newEpochCode s (length t)) s t (withEpoch s (s .epoch + 1)) t
-      (λ e. fine-steps (omega arith) (record { size = refl; at = λ i h. session-step _ _ (pageAt t i) (omega arith) refl (λ u. u) }) f)
-      (λ e. f)
-
-  pub reset-stands : Leaves log (resetOut s t)
-  unfolding resetOut
-  reset-stands =
-      answered-either (Leaves log) (resetCode s (length t)) s t (withCheck s unchecked) t (λ e. f) (λ e. f)
+  pub alone-stands : (k : Alone) → Leaves log (onSession k s t)
+  alone-stands k = alone-either (Leaves log) k s t (λ o. next-stands k) (λ e. f)
 
   pub token-stands : Stands (tokenOut s t .session) t log
   unfolding tokenOut tokenCode

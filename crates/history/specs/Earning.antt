@@ -10,8 +10,9 @@ use Rattle.words.specs.Info.{infoOf, infoWord}
 use Rattle.table.specs.Table.{mostPages}
 use Rattle.session.specs.Formed.{mostEntries, lastEpoch, within, busy}
 use Rattle.session.specs.declared.Phase.the-variants.{Blackout}
+use Rattle.migration.specs.declared.Alone.the-variants.{NewEpoch, Reset}
 use Rattle.calls.specs.Calls.{Effect}
-use Rattle.calls.specs.declared.Call.the-variants.{NewEpoch, Reset, StartToken, Dcheck, Export}
+use Rattle.calls.specs.declared.Call.the-variants.{OnSession, StartToken, Dcheck, Export}
 use Rattle.history.specs.History.{Given, given, World, effectIn, accepted, cameTo, after}
 
 -- the token, asked for now, is granted
@@ -25,10 +26,10 @@ pub record Paused (w : World) : Type 0 where
   pub epoch : w .session .epoch < lastEpoch
 
 abbrev pub reset : World → World
-reset w = after w (given Reset [] [])
+reset w = after w (given (OnSession Reset) [] [])
 
 abbrev pub nextEpoch : World → World
-nextEpoch w = after w (given NewEpoch [] [])
+nextEpoch w = after w (given (OnSession NewEpoch) [] [])
 
 -- ---- the check
 

@@ -4,10 +4,16 @@ use mathlib.Core.Bool.{Bool, true, false}
 use mathlib.Core.List.{List, [], _∷_, _++_, map}
 use Prim.Native.Nat.{ℕ, _+_, _*_, _^_, _≤_}
 use lib.ListN.{length, replicate}
+use Rattle.page.specs.declared.moves.Move.{Move}
+use Rattle.page.specs.declared.moves.Move.the-variants.{Write, Add, Accept, Block, Remove}
+use Rattle.page.specs.declared.sweeps.Sweep.{Sweep}
+use Rattle.page.specs.declared.sweeps.Sweep.the-variants.{Track, Start, Pause}
 use Rattle.session.specs.Session.{newSession}
 use Rattle.session.specs.declared.Session.{Session}
+use Rattle.migration.specs.declared.Alone.{Alone}
+use Rattle.migration.specs.declared.Alone.the-variants.{NewEpoch, Reset}
 use Rattle.calls.specs.declared.Call.{Call}
-use Rattle.calls.specs.declared.Call.the-variants.{Write, Add, Accept, Block, Remove, Track, Start, Pause, NewEpoch, Reset, StartToken, Dscan, Dcheck, Export}
+use Rattle.calls.specs.declared.Call.the-variants.{OnPage, OnAll, OnSession, StartToken, Dscan, Dcheck, Export}
 use Rattle.bundle.specs.Bundle.{Operation, migrate, cancel, remigrate, Sent, Order}
 use Rattle.history.specs.History.{Given, given, accepted, newEffect, History, atEnd}
 use Rattle.table.specs.Table.{pageCount}
@@ -26,6 +32,15 @@ words = replicate 8 7
 abbrev plain : Call → Given
 plain c = given c [] []
 
+abbrev on : ℕ → Move → Given
+on page m = plain (OnPage page m)
+
+abbrev onEvery : Sweep → Given
+onEvery k = plain (OnAll k)
+
+abbrev onNone : Alone → Given
+onNone k = plain (OnSession k)
+
 -- LAST and FIRST of an info word
 abbrev upTo : ℕ → ℕ → ℕ
 upTo last first = last * 2 ^ 55 + first * 8
@@ -38,28 +53,28 @@ scanned = 0x0010000000000000 ∷ 0x0010000000001000 ∷ 0x0010000000002004 ∷ [
 -- page 1 is written again and page 0 removed
 abbrev pub live : List Given
 live =
-    plain (Add 0)
-    ∷ plain (Accept 0)
-    ∷ plain (Write 0 7)
-    ∷ plain (Add 1)
-    ∷ plain (Accept 1)
-    ∷ plain (Write 1 8)
-    ∷ plain (Add 2)
-    ∷ plain Start
+    on 0 Add
+    ∷ on 0 Accept
+    ∷ on 0 (Write 7)
+    ∷ on 1 Add
+    ∷ on 1 Accept
+    ∷ on 1 (Write 8)
+    ∷ on 2 Add
+    ∷ onEvery Start
     ∷ given (Dscan 0 4 10) (replicate 4 0) []
-    ∷ plain (Write 0 9)
-    ∷ plain Track
+    ∷ on 0 (Write 9)
+    ∷ onEvery Track
     ∷ given (Export 0 false (upTo 2 0) 2) scanned (replicate 3 0)
     ∷ given (Export 0 true (upTo 2 2) 5) scanned (replicate 3 0)
-    ∷ plain (Write 1 5)
-    ∷ plain (Block 0)
-    ∷ plain Track
-    ∷ plain (Remove 0)
+    ∷ on 1 (Write 5)
+    ∷ on 0 Block
+    ∷ onEvery Track
+    ∷ on 0 Remove
     ∷ []
 
 -- paused; a token that is asked for at once is refused
 abbrev pub toPause : List Given
-toPause = live ++ (plain Pause ∷ plain StartToken ∷ [])
+toPause = live ++ (onEvery Pause ∷ plain StartToken ∷ [])
 
 -- what the check lists: page 0, removed, and page 1, written
 abbrev pub left : List ℕ
@@ -69,7 +84,7 @@ left = 0x0010000000000018 ∷ 0x0010000000001008 ∷ []
 abbrev pub toToken : List Given
 toToken =
     toPause
-    ++ (plain Reset ∷ given (Dcheck 10) (replicate 4 0) [] ∷ plain NewEpoch ∷ given (Export 0 false (upTo 1 0) 5) left (replicate 2 0) ∷ [])
+    ++ (onNone Reset ∷ given (Dcheck 10) (replicate 4 0) [] ∷ onNone NewEpoch ∷ given (Export 0 false (upTo 1 0) 5) left (replicate 2 0) ∷ [])
 
 -- what was sent: the list in epoch 1, and what was left of it in epoch 2
 abbrev sentFirst : ℕ → Bool → ℕ → Sent

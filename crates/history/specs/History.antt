@@ -13,10 +13,14 @@ use Rattle.words.specs.Info.{infoOf}
 use Rattle.words.specs.Operations as operations
 use Rattle.words.specs.Statuses as statuses
 use Rattle.words.specs.declared.entries.Entry.{Entry}
+use Rattle.page.specs.declared.moves.Move.{Move}
+use Rattle.page.specs.declared.moves.Move.the-variants.{Write, Add, Accept, Block, Unblock, Remove}
+use Rattle.page.specs.declared.sweeps.Sweep.{Sweep}
+use Rattle.page.specs.declared.sweeps.Sweep.the-variants.{Track, Start, Pause, Abort}
 use Rattle.session.specs.declared.Session.{Session}
 use Rattle.calls.specs.Calls.{Effect, effectOf}
 use Rattle.calls.specs.declared.Call.{Call}
-use Rattle.calls.specs.declared.Call.the-variants.{New, Write, Add, Accept, Block, Unblock, Remove, Track, Start, Pause, Abort, NewEpoch, Reset, StartToken, Dscan, Dcheck, Export}
+use Rattle.calls.specs.declared.Call.the-variants.{New, OnPage, OnAll, OnSession, StartToken, Dscan, Dcheck, Export}
 use Rattle.calls.specs.declared.Returned.{Returned}
 use Rattle.bundle.specs.Bundle.{Holding, absent, holds, Operation, migrate, cancel, remigrate, Sent, nothing}
 
@@ -82,20 +86,18 @@ sentIn w info e =
     sentFrom (w .session .epoch) (e .list) (e .buffer) first (cameTo info (e .returned) - first)
 
 -- an accepted start begins a new log
+abbrev pub beginsLog : Sweep → Bool
+beginsLog Track = false
+beginsLog Start = true
+beginsLog Pause = false
+beginsLog Abort = false
+
+-- and only an export adds to it
 abbrev pub loggedBy : Call → World → Effect → List Sent
 loggedBy (New created) w e = w .log
-loggedBy (Write page mark) w e = w .log
-loggedBy (Add page) w e = w .log
-loggedBy (Accept page) w e = w .log
-loggedBy (Block page) w e = w .log
-loggedBy (Unblock page) w e = w .log
-loggedBy (Remove page) w e = w .log
-loggedBy Track w e = w .log
-loggedBy Start w e = cond (accepted e) [] (w .log)
-loggedBy Pause w e = w .log
-loggedBy Abort w e = w .log
-loggedBy NewEpoch w e = w .log
-loggedBy Reset w e = w .log
+loggedBy (OnPage page m) w e = w .log
+loggedBy (OnAll k) w e = cond (accepted e && beginsLog k) [] (w .log)
+loggedBy (OnSession k) w e = w .log
 loggedBy StartToken w e = w .log
 loggedBy (Dscan first count budget) w e = w .log
 loggedBy (Dcheck budget) w e = w .log
@@ -107,41 +109,39 @@ loggedBy (Export stream resume info budget) w e = w .log ++ sentIn w info e
 abbrev pub holding : (ℕ → Holding) → ℕ → Holding → ℕ → Holding
 holding m at h i = cond (eqb at i) h (m i)
 
--- an added page is pending; an accepted one is the guest's, with mark 0
+-- what a call on one page leaves the guest of it: an added page is pending; an accepted one is the guest's, with mark 0
+abbrev pub leaves : Move → Holding → Holding
+leaves (Write mark) h = holds false mark
+leaves Add h = holds true 0
+leaves Accept h = holds false 0
+leaves Block h = h
+leaves Unblock h = h
+leaves Remove h = absent
+
+-- no other call but New changes it
 abbrev pub rememberedBy : Call → (ℕ → Holding) → ℕ → Holding
 rememberedBy (New created) m = nothing
-rememberedBy (Write page mark) m = holding m page (holds false mark)
-rememberedBy (Add page) m = holding m page (holds true 0)
-rememberedBy (Accept page) m = holding m page (holds false 0)
-rememberedBy (Block page) m = m
-rememberedBy (Unblock page) m = m
-rememberedBy (Remove page) m = holding m page absent
-rememberedBy Track m = m
-rememberedBy Start m = m
-rememberedBy Pause m = m
-rememberedBy Abort m = m
-rememberedBy NewEpoch m = m
-rememberedBy Reset m = m
+rememberedBy (OnPage page k) m = holding m page (leaves k (m page))
+rememberedBy (OnAll k) m = m
+rememberedBy (OnSession k) m = m
 rememberedBy StartToken m = m
 rememberedBy (Dscan first count budget) m = m
 rememberedBy (Dcheck budget) m = m
 rememberedBy (Export stream resume info budget) m = m
 
 -- an accepted pause takes the copy
+abbrev pub takesCopy : Sweep → Bool
+takesCopy Track = false
+takesCopy Start = false
+takesCopy Pause = true
+takesCopy Abort = false
+
+-- and no other call does
 abbrev pub copiedBy : Call → (ℕ → Holding) → (ℕ → Holding) → ℕ → Holding
 copiedBy (New created) m c = c
-copiedBy (Write page mark) m c = c
-copiedBy (Add page) m c = c
-copiedBy (Accept page) m c = c
-copiedBy (Block page) m c = c
-copiedBy (Unblock page) m c = c
-copiedBy (Remove page) m c = c
-copiedBy Track m c = c
-copiedBy Start m c = c
-copiedBy Pause m c = m
-copiedBy Abort m c = c
-copiedBy NewEpoch m c = c
-copiedBy Reset m c = c
+copiedBy (OnPage page k) m c = c
+copiedBy (OnAll k) m c = cond (takesCopy k) m c
+copiedBy (OnSession k) m c = c
 copiedBy StartToken m c = c
 copiedBy (Dscan first count budget) m c = c
 copiedBy (Dcheck budget) m c = c

@@ -9,16 +9,17 @@ use borrow.Author.Tests.{eqb-true, ltb-false}
 use Rattle.words.specs.Codes as codes
 use Rattle.refusals.specs.Refusals.{Test, _gives_, firstOf}
 use Rattle.refusals.proofs.Laws.{coded, not-true, first-all}
-use Rattle.page.specs.Page.{gives53, gives54}
+use Rattle.page.specs.Page.{onWords, gives53, gives54}
+use Rattle.page.specs.Sweeps.{sweptBy}
 use Rattle.page.specs.declared.sweeps.Sweep.{Sweep}
 use Rattle.page.specs.declared.sweeps.Sweep.the-variants.{Track, Start, Pause, Abort}
-use Rattle.table.specs.Table.{pageCount, lowest, some}
+use Rattle.table.specs.Table.{pageCount, sweepOf, lowest, some}
 use Rattle.session.specs.Session.{phasesOf}
 use Rattle.session.specs.Formed.{gateTests, gated, behind}
-use Rattle.session.specs.Outcome.{answerFor, answered}
+use Rattle.session.specs.Outcome.{Outcome, outcome, answerFor, answered}
 use Rattle.session.specs.declared.When.the-variants as when
 use Rattle.session.specs.declared.Session.{Session}
-use Rattle.session.proofs.Laws.{Open, first-then, behind-gate, gate-open, table-kept}
+use Rattle.session.proofs.Laws.{Open, first-then, behind-gate, gate-open, open-gate, answered-either}
 use Rattle.migration.specs.Migration.{sweepWhen, stopsAt, stopped, sweepTests, sweepNext, sweepCode, sweepAnswer, onAll}
 use Rattle.migration.specs.Migration.{aloneWhen, aloneTests, aloneNext, aloneCode, aloneAnswer, onSession}
 use Rattle.migration.specs.Token.{TokenNumbers, tokenSays, tokenGate, tokenCode, inTheWay, tokenFor, tokenOut, tokenAnswer}
@@ -40,6 +41,14 @@ pub sweep-open : (k : Sweep) (s : Session) (t : List ℕ) → sweepCode k s t �
 unfolding sweepCode
 sweep-open k s t e = gate-open s (length t) (phasesOf (sweepWhen k)) (sweepTests k s _) (sweeps-coded k s _) e
 
+-- what holds of the outcome of a call that is done and of the one that gives back what came
+pub all-either : (P : Outcome → Type 0) (k : Sweep) (s : Session) (t : List ℕ) → (Open s (length t) (phasesOf (sweepWhen k)) (sweepTests k s (stopped (stopsAt k) t)) → P (outcome 0 (sweepNext k s) (sweepOf (onWords (sweptBy k)) t))) → (eqb (sweepCode k s t) 0 ≡ false → P (outcome (sweepCode k s t) s t)) → P (onAll k s t)
+unfolding onAll
+all-either P k s t made kept =
+    answered-either P (sweepCode k s t) s t (sweepNext k s) (sweepOf (onWords (sweptBy k)) t)
+    (λ q. let z = eqb-true (sweepCode k s t) 0 q in rw z (made (sweep-open k s t z)))
+    kept
+
 -- what it answers from what it is told: the table is asked for only where the gate is passed
 pub sweep-answer : (k : Sweep) (s : Session) (t : List ℕ) (gate : ℕ) (stops : Bool) → gate ≡ gated s (length t) (phasesOf (sweepWhen k)) [] → (gate ≡ 0 → stops ≡ stopped (stopsAt k) t) → sweepAnswer k s gate stops ≡ onAll k s t .answer
 unfolding sweepAnswer onAll sweepCode answered
@@ -57,14 +66,25 @@ pub alone-open : (k : Alone) (s : Session) (len : ℕ) → aloneCode k s len ≡
 unfolding aloneCode
 alone-open k s len e = gate-open s len (phasesOf (aloneWhen k)) (aloneTests k s) (alones-coded k s) e
 
+pub alone-either : (P : Outcome → Type 0) (k : Alone) (s : Session) (t : List ℕ) → (Open s (length t) (phasesOf (aloneWhen k)) (aloneTests k s) → P (outcome 0 (aloneNext k s) t)) → (eqb (aloneCode k s (length t)) 0 ≡ false → P (outcome (aloneCode k s (length t)) s t)) → P (onSession k s t)
+unfolding onSession
+alone-either P k s t made kept =
+    answered-either P (aloneCode k s (length t)) s t (aloneNext k s) t
+    (λ q. let z = eqb-true (aloneCode k s (length t)) 0 q in rw z (made (alone-open k s (length t) z)))
+    kept
+
+-- one that has passed its gate and its tests is done
+pub alone-done : (k : Alone) (s : Session) (t : List ℕ) → Open s (length t) (phasesOf (aloneWhen k)) (aloneTests k s) → onSession k s t ≡ outcome 0 (aloneNext k s) t
+unfolding onSession aloneCode answered
+alone-done k s t o = rw (open-gate s (length t) (phasesOf (aloneWhen k)) (aloneTests k s) o)
+
 pub alone-answer : (k : Alone) (s : Session) (len : ℕ) (t : List ℕ) → length t ≡ len → aloneAnswer k s len ≡ onSession k s t .answer
 unfolding aloneAnswer onSession answered
 alone-answer k s len t e = rw (← e)
 
 -- they leave the table
 pub alone-table : (k : Alone) (s : Session) (t : List ℕ) → onSession k s t .table ≡ t
-unfolding onSession
-alone-table k s t = table-kept (aloneCode k s (length t)) s (aloneNext k s) t
+alone-table k s t = alone-either (λ (o : Outcome). o .table ≡ t) k s t (λ o. refl) (λ e. refl)
 
 -- ---- the token
 

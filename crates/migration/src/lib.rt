@@ -155,8 +155,8 @@ fn alone_passed(k: Alone, s: Session) -> Answer
 {
     match k {
         Alone::NewEpoch => {
-            let interrupted = session::is_busy(s);
-            if interrupted {
+            let busy = session::is_busy(s);
+            if busy {
                 return answer(codes::OPERAND_BUSY, s);
             }
             if session::LAST_EPOCH <= s.epoch {

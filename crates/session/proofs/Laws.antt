@@ -8,7 +8,6 @@ use lib.Dec.{eqb, ltb}
 use borrow.Author.Tests.{ltb-true, eqb-true, ne-eqb}
 use Rattle.refusals.specs.Refusals.{Test, firstOf}
 use Rattle.refusals.proofs.Laws.{and-left, and-right, not-false, Passed, coded, passed, passed-code, Ends, once, ended}
-use Rattle.table.specs.Table.{wordsAt}
 use Rattle.session.specs.Session.{among}
 use Rattle.session.specs.Formed.{formed, gateTests, gated, behind}
 use Rattle.session.specs.Outcome.{Outcome, outcome, answered}
@@ -60,15 +59,6 @@ module _ (code : ℕ) (s : Session) (t : List ℕ) (s' : Session) (t' : List ℕ
   unfolding answered
   answered-again =
       rw e (answered-either (λ (o : Outcome). answered (o .answer .code) s t (o .answer .session) t' ≡ o) code s t s' t' (λ z. rw z) (λ n. rw n))
-
--- a call that makes no other table leaves the table
-pub table-kept : (code : ℕ) (s s' : Session) (t : List ℕ) → answered code s t s' t .table ≡ t
-table-kept code s s' t = answered-either (λ (o : Outcome). o .table ≡ t) code s t s' t (λ e. refl) (λ e. refl)
-
--- two words that the table made by a call has in common with the one that came
-pub answered-words : (code : ℕ) (s : Session) (t : List ℕ) (s' : Session) (t' : List ℕ) (i : ℕ) → (eqb code 0 ≡ true → wordsAt t' i ≡ wordsAt t i) → wordsAt (answered code s t s' t' .table) i ≡ wordsAt t i
-answered-words code s t s' t' i same =
-    answered-either (λ (o : Outcome). wordsAt (o .table) i ≡ wordsAt t i) code s t s' t' same (λ e. refl)
 
 -- behind the gate, and behind the call's own tests
 pub record Open (s : Session) (len : ℕ) (phases : List Phase) (l : List Test) : Type 0 where

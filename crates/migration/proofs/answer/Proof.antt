@@ -1,5 +1,4 @@
 -- The definition, written out.
-use borrow.Author.Needs.{needs}
 use mathlib.Core.Path.{refl}
 use Rattle.migration.proofs.answer.Statement.{statement}
 use Rattle.migration.proofs.answer.Tie as tie
