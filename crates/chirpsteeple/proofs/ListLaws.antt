@@ -29,7 +29,7 @@ use Rattle.wire.specs.Sessions.{sessionOf}
 use Rattle.wire.proofs.BytesLaws.{words-length}
 use Rattle.chirpsteeple.specs.Host.{Lent, Left, isList, inLayout, inWords, refused, played, hostOf}
 use Rattle.chirpsteeple.specs.Promises.{firstGroup}
-use Rattle.chirpsteeple.specs.Inside.{before42, Comes}
+use Rattle.chirpsteeple.specs.Inside.{before42, ComesIn}
 use Rattle.chirpsteeple.proofs.LayoutLaws.{host-first, engine-read}
 
 list-whole : (len : ℕ) → isList len ≡ true → len ≡ 8 * (len / 8)
@@ -82,7 +82,7 @@ module _ (s : Session) (len : ℕ) (phases : List Phase) where
       go false true = refl
       go false false = refl
 
-pub dscan-comes : (first count budget : ℕ) → Comes (Dscan first count budget) (Live ∷ [])
+pub dscan-comes : (first count budget : ℕ) → ComesIn (Dscan first count budget) (Live ∷ [])
 unfolding dscanCode
 dscan-comes first count budget =
     record {
@@ -94,7 +94,7 @@ dscan-comes first count budget =
           (gate-place s (length t) (Live ∷ []) tests refl);
     }
 
-pub dcheck-comes : (budget : ℕ) → Comes (Dcheck budget) (Blackout ∷ [])
+pub dcheck-comes : (budget : ℕ) → ComesIn (Dcheck budget) (Blackout ∷ [])
 unfolding dcheckCode
 dcheck-comes budget =
     record {
@@ -108,7 +108,7 @@ dcheck-comes budget =
           (gate-place s (length t) (Blackout ∷ []) tests refl);
     }
 
-pub export-comes : (stream : ℕ) (resume : Bool) (info budget : ℕ) → Comes (Export stream resume info budget) moving
+pub export-comes : (stream : ℕ) (resume : Bool) (info budget : ℕ) → ComesIn (Export stream resume info budget) moving
 unfolding exportOut exportCode
 export-comes stream resume info budget =
     record {
@@ -123,7 +123,7 @@ export-comes stream resume info budget =
     }
 
 -- so what is no list is refused there
-pub no-list : (c : Call) (phases : List Phase) (x : Lent) → Comes c phases → inLayout c x ≡ true → inWords x ≡ false → hostOf c x ≡ refused (firstGroup (sessionOf (wordsOf (x .session))) (length (x .table) / 8) phases) x
+pub no-list : (c : Call) (phases : List Phase) (x : Lent) → ComesIn c phases → inLayout c x ≡ true → inWords x ≡ false → hostOf c x ≡ refused (firstGroup (sessionOf (wordsOf (x .session))) (length (x .table) / 8) phases) x
 unfolding played
 no-list c phases x comes e w =
     let s = sessionOf (wordsOf (x .session)) in

@@ -7,22 +7,20 @@ use lib.Dec.{eqb}
 use lib.ListN.{length}
 use borrow.Author.Tests.{eqb-true}
 use Rattle.page.specs.declared.moves.Move.{Move}
-use Rattle.page.specs.declared.moves.Move.the-variants as move
 use Rattle.table.specs.Table.{wordsAt, putAt}
 use Rattle.session.specs.Outcome.{Outcome, answered}
 use Rattle.session.proofs.Laws.{answered-either}
-use Rattle.session.specs.declared.Session.{Session}
 use Rattle.memory.specs.declared.Turn.{Turn}
 use Rattle.memory.proofs.Laws.{page-turn}
-use Rattle.memory.specs.Memory.{pageTurn, onPage, writeOut, addOut, acceptOut, blockOut, unblockOut, removeOut}
-use Rattle.calls.specs.Calls.{effect, effectOf}
-use Rattle.calls.specs.Promises.{isNew}
+use Rattle.memory.specs.Memory.{pageTurn}
+use Rattle.calls.specs.Calls.{effect}
+use Rattle.calls.specs.declared.Call.the-variants.{OnPage}
 use Rattle.wire.specs.Bytes.{wordsOf, Bytes}
 use Rattle.wire.specs.Sessions.{sessionOf}
 use Rattle.wire.specs.Tables.{putPage}
 use Rattle.wire.proofs.BytesLaws.{words-length, page-bytes}
 use Rattle.chirpsteeple.specs.Host.{Left, lent, codeAlone, leaving, played, hostOf}
-use Rattle.chirpsteeple.specs.Inside.{readable, callOn}
+use Rattle.chirpsteeple.specs.Inside.{readable}
 use Rattle.chirpsteeple.proofs.LayoutLaws.{readable-means, table-whole, table-kept, session-kept, host-played}
 
 -- the turn on the words that the bytes are
@@ -45,31 +43,14 @@ same : (b : Bool) (l : List ℕ) → cond b l l ≡ l
 same true l = refl
 same false l = refl
 
-pub page-reads : (m : Move) (page : ℕ) → isNew (callOn m page) ≡ false
-page-reads (move.Write mark) page = refl
-page-reads move.Add page = refl
-page-reads move.Accept page = refl
-page-reads move.Block page = refl
-page-reads move.Unblock page = refl
-page-reads move.Remove page = refl
-
-page-effect : (m : Move) (s : Session) (t l b : List ℕ) (page : ℕ) → effectOf (callOn m page) s t l b ≡ effect (onPage m s t page) l b
-unfolding writeOut addOut acceptOut blockOut unblockOut removeOut
-page-effect (move.Write mark) s t l b page = refl
-page-effect move.Add s t l b page = refl
-page-effect move.Accept s t l b page = refl
-page-effect move.Block s t l b page = refl
-page-effect move.Unblock s t l b page = refl
-page-effect move.Remove s t l b page = refl
-
 no-words : wordsOf [] ≡ []
 unfolding wordsOf
 no-words = refl
 
-pub one-page : (m : Move) (s t : List ℕ) (page : ℕ) → Bytes s → Bytes t → readable s (length t) ≡ true → hostOf (callOn m page) (lent s t) ≡ turnLeft s t page (turnOn m s t page)
+pub one-page : (m : Move) (s t : List ℕ) (page : ℕ) → Bytes s → Bytes t → readable s (length t) ≡ true → hostOf (OnPage page m) (lent s t) ≡ turnLeft s t page (turnOn m s t page)
 unfolding played
 one-page m s t page x y e =
-    rw (host-played (callOn m page) (lent s t) (page-reads m page) e refl, page-effect m, page-turn m, no-words, words-length t)
+    rw (host-played (OnPage page m) (lent s t) refl e refl, page-turn m, no-words, words-length t)
     (go (turnOn m s t page))
   where
     go : (turn : Turn) → leaving (effect (answered (turn .code) (sessionOf (wordsOf s)) (wordsOf t) (sessionOf (wordsOf s)) (putAt (wordsOf t) page (turn .words))) [] []) (lent s t) ≡ turnLeft s t page turn

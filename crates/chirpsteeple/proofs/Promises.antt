@@ -7,6 +7,7 @@ use lib.Dec.{eqb, lit<}
 use lib.ListN.{length}
 use borrow.Author.Tests.{lt-leb}
 use Rattle.words.specs.Codes as codes
+use Rattle.page.specs.declared.sweeps.Sweep.the-variants.{Track}
 use Rattle.table.specs.Table.{legal}
 use Rattle.session.specs.Session.{moving, newSession, begun}
 use Rattle.session.specs.Formed.{formed, busy, gated}
@@ -17,7 +18,7 @@ use Rattle.calls.specs.Promises.{named, refusal, isNew}
 use Rattle.calls.specs.declared.Call.{Call}
 use Rattle.calls.proofs.Codes.{answers-named}
 use Rattle.calls.proofs.Promises.{refusal-keeps}
-use Rattle.calls.specs.declared.Call.the-variants.{Track, Dscan, Dcheck, Export}
+use Rattle.calls.specs.declared.Call.the-variants.{OnAll, Dscan, Dcheck, Export}
 use Rattle.wire.specs.Bytes.{wordsOf, bytesOf}
 use Rattle.wire.specs.Sessions.{sessionOf, sessionWords}
 use Rattle.wire.proofs.BytesLaws.{bytes-length}
@@ -126,7 +127,7 @@ pub met : Met
 unfolding formed busy legal gated
 met = record {
   layout = refl;
-  refused = ap (λ (n : Numbers). refusal (n .code)) (no-layout .all Track (lent [] []) refl);
+  refused = ap (λ (n : Numbers). refusal (n .code)) (no-layout .all (OnAll Track) (lent [] []) refl);
   dscan = (gives-42 Live refl (Dscan 0 1 1) (Live ∷ []) 7 0 0 refl refl (λ e. no-list-no-call .dscan 0 1 1 _ e refl), refl);
   dcheck = (gives-42 Blackout refl (Dcheck 1) (Blackout ∷ []) 4104 0 0 refl refl (λ e. no-list-no-call .dcheck 1 _ e refl), refl);
   list = (gives-42 Live refl (Export 0 false 0 1) moving 7 8 0 refl refl (λ e. no-list-no-call .list 0 false 0 1 _ e refl), refl);

@@ -9,26 +9,24 @@ use lib.ListN.{length, replicate}
 use borrow.Author.Tests.{eqb-true}
 use Rattle.words.specs.Codes as codes
 use Rattle.refusals.proofs.Laws.{and-right}
-use Rattle.page.specs.Page.{Page, onWords}
+use Rattle.page.specs.Page.{onWords}
 use Rattle.page.specs.Sweeps.{sweptBy}
+use Rattle.page.specs.declared.sweeps.Sweep.{Sweep}
 use Rattle.table.specs.Table.{legal, sweepOf}
 use Rattle.session.specs.Formed.{within, fewestCreated, mostCreated}
-use Rattle.session.specs.Outcome.{Outcome, answeredBy}
-use Rattle.session.specs.declared.Session.{Session}
+use Rattle.session.specs.Outcome.{Outcome}
 use Rattle.session.specs.declared.Answer.{Answer}
 use Rattle.session.proofs.Laws.{answered-either}
-use Rattle.memory.specs.Memory.{newCode, newOut, trackOut}
-use Rattle.migration.specs.Migration.{startOut, pauseOut, abortOut}
+use Rattle.memory.specs.Memory.{newCode, newOut}
+use Rattle.migration.specs.Migration.{sweepCode, onAll}
 use Rattle.calls.specs.Calls.{effect}
-use Rattle.calls.specs.Promises.{refusal, isNew}
-use Rattle.calls.specs.declared.Call.the-variants.{New}
+use Rattle.calls.specs.Promises.{refusal}
+use Rattle.calls.specs.declared.Call.the-variants.{New, OnAll}
 use Rattle.wire.specs.Bytes.{wordsOf, bytesOf, Bytes}
 use Rattle.wire.specs.Sessions.{sessionLength, sessionOf, sessionWords}
 use Rattle.wire.proofs.BytesLaws.{words-length, zero-bytes}
 use Rattle.chirpsteeple.specs.Host.{Left, lent, sessionBytes, isTable, leaving, played, hostOf}
-use Rattle.chirpsteeple.specs.Inside.{readable, sweepFor, sweepingOut, callSweeping}
-use Rattle.chirpsteeple.specs.declared.sweeps.Sweeping.{Sweeping}
-use Rattle.chirpsteeple.specs.declared.sweeps.Sweeping.the-variants as sweeping
+use Rattle.chirpsteeple.specs.Inside.{readable}
 use Rattle.chirpsteeple.proofs.LayoutLaws.{readable-means, table-whole, table-kept, session-kept, host-left, host-played}
 use Rattle.chirpsteeple.proofs.TablesLaws.{either-kept}
 
@@ -39,31 +37,20 @@ Leaves s t a made left =
     × ((cond (eqb (a .code) 0) (bytesOf (sessionWords (a .session))) s ≡ left .session)
     × (cond (eqb (a .code) 0) made t ≡ left .table))
 
-swept-left : (s t l b : List ℕ) (f : Page → Page) (code : ℕ) (next : Session) (a : Answer) → Bytes s → Bytes t → readable s (length t) ≡ true → a ≡ answeredBy f code (sessionOf (wordsOf s)) next (wordsOf t) .answer → Leaves s t a (bytesOf (sweepOf (onWords f) (wordsOf t))) (leaving (effect (answeredBy f code (sessionOf (wordsOf s)) next (wordsOf t)) l b) (lent s t))
-swept-left s t l b f code next a x y e h =
-    rw h
-    (answered-either (λ (o : Outcome). Leaves s t (o .answer) (bytesOf (sweepOf (onWords f) (wordsOf t))) (leaving (effect o l b) (lent s t))) code _ _ _ _
-    (λ z. rw (eqb-true code 0 z) (refl, (refl, refl)))
-    (λ n. rw n (refl, (either-kept (refusal code) (session-kept s (length t) x e), either-kept (refusal code) (table-kept t y (readable-means s (length t) e .table))))))
-
-pub sweeping-reads : (k : Sweeping) → isNew (callSweeping k) ≡ false
-sweeping-reads sweeping.Track = refl
-sweeping-reads sweeping.Start = refl
-sweeping-reads sweeping.Pause = refl
-sweeping-reads sweeping.Abort = refl
-
-pub sweeping-left :
-    (k : Sweeping) (s t : List ℕ) (a : Answer) →
+pub sweep-left :
+    (k : Sweep) (s t : List ℕ) (a : Answer) →
     Bytes s →
     Bytes t →
     readable s (length t) ≡ true →
-    a ≡ sweepingOut k (sessionOf (wordsOf s)) (wordsOf t) .answer →
-    Leaves s t a (bytesOf (sweepOf (onWords (sweptBy (sweepFor k))) (wordsOf t))) (hostOf (callSweeping k) (lent s t))
-unfolding played trackOut startOut pauseOut abortOut
-sweeping-left sweeping.Track s t a x y e h = rw (host-played (callSweeping sweeping.Track) (lent s t) refl e refl) (swept-left s t (wordsOf []) (wordsOf []) _ _ _ a x y e h)
-sweeping-left sweeping.Start s t a x y e h = rw (host-played (callSweeping sweeping.Start) (lent s t) refl e refl) (swept-left s t (wordsOf []) (wordsOf []) _ _ _ a x y e h)
-sweeping-left sweeping.Pause s t a x y e h = rw (host-played (callSweeping sweeping.Pause) (lent s t) refl e refl) (swept-left s t (wordsOf []) (wordsOf []) _ _ _ a x y e h)
-sweeping-left sweeping.Abort s t a x y e h = rw (host-played (callSweeping sweeping.Abort) (lent s t) refl e refl) (swept-left s t (wordsOf []) (wordsOf []) _ _ _ a x y e h)
+    a ≡ onAll k (sessionOf (wordsOf s)) (wordsOf t) .answer →
+    Leaves s t a (bytesOf (sweepOf (onWords (sweptBy k)) (wordsOf t))) (hostOf (OnAll k) (lent s t))
+unfolding played onAll
+sweep-left k s t a x y e h =
+    let code = sweepCode k (sessionOf (wordsOf s)) (wordsOf t) in
+    rw (h, host-played (OnAll k) (lent s t) refl e refl)
+    (answered-either (λ (o : Outcome). Leaves s t (o .answer) (bytesOf (sweepOf (onWords (sweptBy k)) (wordsOf t))) (leaving (effect o (wordsOf []) (wordsOf [])) (lent s t))) code _ _ _ _
+    (λ z. rw (eqb-true code 0 z) (refl, (refl, refl)))
+    (λ n. rw n (refl, (either-kept (refusal code) (session-kept s (length t) x e), either-kept (refusal code) (table-kept t y (readable-means s (length t) e .table))))))
 
 -- ---- New
 

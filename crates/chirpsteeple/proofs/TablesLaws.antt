@@ -4,35 +4,21 @@ use mathlib.Core.Bool.{Bool, true, false, cond}
 use mathlib.Core.List.{List}
 use Prim.Native.Nat.{ℕ}
 use lib.ListN.{length}
-use Rattle.session.specs.declared.Session.{Session}
 use Rattle.session.specs.declared.Answer.{Answer}
+use Rattle.migration.specs.Migration.{onSession}
 use Rattle.migration.specs.Token.{tokenSays, tokenOut}
+use Rattle.migration.specs.declared.Alone.{Alone}
 use Rattle.migration.specs.declared.token.TokenAnswer.{TokenAnswer}
-use Rattle.migration.proofs.Laws.{new-epoch-table, reset-table}
-use Rattle.calls.specs.Calls.{effect, effectOf}
-use Rattle.calls.specs.Promises.{refusal, isNew}
-use Rattle.calls.specs.declared.Call.the-variants.{StartToken}
+use Rattle.migration.proofs.Laws.{alone-table}
+use Rattle.calls.specs.Promises.{refusal}
+use Rattle.calls.specs.declared.Call.the-variants.{OnSession, StartToken}
 use Rattle.wire.specs.Bytes.{wordsOf, bytesOf, Bytes}
 use Rattle.wire.specs.Sessions.{sessionOf, sessionWords}
 use Rattle.chirpsteeple.specs.Host.{lent, played, hostOf}
-use Rattle.chirpsteeple.specs.Inside.{readable, callAlone, aloneOut}
-use Rattle.chirpsteeple.specs.declared.tables.Alone.{Alone}
-use Rattle.chirpsteeple.specs.declared.tables.Alone.the-variants as alone
+use Rattle.chirpsteeple.specs.Inside.{readable}
 use Rattle.chirpsteeple.proofs.LayoutLaws.{readable-means, table-kept, host-played}
 
 -- ---- new epoch and reset
-
-alone-effect : (k : Alone) (s : Session) (t l b : List ℕ) → effectOf (callAlone k) s t l b ≡ effect (aloneOut k s t) l b
-alone-effect alone.NewEpoch s t l b = refl
-alone-effect alone.Reset s t l b = refl
-
-alone-table : (k : Alone) (s : Session) (t : List ℕ) → aloneOut k s t .table ≡ t
-alone-table alone.NewEpoch s t = new-epoch-table s t
-alone-table alone.Reset s t = reset-table s t
-
-pub alone-reads : (k : Alone) → isNew (callAlone k) ≡ false
-alone-reads alone.NewEpoch = refl
-alone-reads alone.Reset = refl
 
 -- bytes that are the same either way
 pub either-kept : (b : Bool) {x y : List ℕ} → y ≡ x → x ≡ cond b x y
@@ -43,14 +29,14 @@ pub alone-left :
     (k : Alone) (s t : List ℕ) (a : Answer) →
     Bytes t →
     readable s (length t) ≡ true →
-    a ≡ aloneOut k (sessionOf (wordsOf s)) (wordsOf t) .answer →
-    (a .code ≡ hostOf (callAlone k) (lent s t) .answer .code)
-    × ((cond (refusal (a .code)) s (bytesOf (sessionWords (a .session))) ≡ hostOf (callAlone k) (lent s t) .session)
-    × (t ≡ hostOf (callAlone k) (lent s t) .table))
+    a ≡ onSession k (sessionOf (wordsOf s)) (wordsOf t) .answer →
+    (a .code ≡ hostOf (OnSession k) (lent s t) .answer .code)
+    × ((cond (refusal (a .code)) s (bytesOf (sessionWords (a .session))) ≡ hostOf (OnSession k) (lent s t) .session)
+    × (t ≡ hostOf (OnSession k) (lent s t) .table))
 unfolding played
 alone-left k s t a y e h =
-    rw (h, host-played (callAlone k) (lent s t) (alone-reads k) e refl, alone-effect k, alone-table k)
-    (refl, (refl, either-kept (refusal (aloneOut k (sessionOf (wordsOf s)) (wordsOf t) .answer .code)) (table-kept t y (readable-means s (length t) e .table))))
+    rw (h, host-played (OnSession k) (lent s t) refl e refl, alone-table k)
+    (refl, (refl, either-kept (refusal (onSession k (sessionOf (wordsOf s)) (wordsOf t) .answer .code)) (table-kept t y (readable-means s (length t) e .table))))
 
 -- ---- the start token
 

@@ -6,13 +6,16 @@ use lib.Dec.{eqb, leb}
 use lib.ListN.{length, replicate}
 use Rattle.words.specs.Codes as codes
 use Rattle.refusals.specs.Refusals.{Test, _gives_, firstOf}
+use Rattle.page.specs.declared.moves.Move.the-variants.{Write, Add, Accept, Block, Unblock, Remove}
+use Rattle.page.specs.declared.sweeps.Sweep.the-variants.{Track, Start, Pause, Abort}
 use Rattle.table.specs.Table.{legal}
 use Rattle.session.specs.Formed.{mostEntries}
 use Rattle.session.specs.declared.Session.{Session}
+use Rattle.migration.specs.declared.Alone.the-variants.{NewEpoch, Reset}
 use Rattle.calls.specs.Calls.{Effect, effectOf}
 use Rattle.calls.specs.Promises.{refusal, isNew}
 use Rattle.calls.specs.declared.Call.{Call}
-use Rattle.calls.specs.declared.Call.the-variants.{New, Write, Add, Accept, Block, Unblock, Remove, Track, Start, Pause, Abort, NewEpoch, Reset, StartToken, Dscan, Dcheck, Export}
+use Rattle.calls.specs.declared.Call.the-variants.{New, OnPage, OnAll, OnSession, StartToken, Dscan, Dcheck, Export}
 use Rattle.calls.specs.declared.Returned.{Returned}
 use Rattle.wire.specs.Bytes.{wordsOf, bytesOf}
 use Rattle.wire.specs.Sessions.{sessionLength, fits, sessionOf, sessionWords}
@@ -139,40 +142,40 @@ abbrev pub newLeft : List ℕ → List ℕ → ℕ → Left
 newLeft s t streams = hostOf (New streams) (lent s t)
 
 abbrev pub writeLeft : List ℕ → List ℕ → ℕ → ℕ → Left
-writeLeft s t page mark = hostOf (Write page mark) (lent s t)
+writeLeft s t page mark = hostOf (OnPage page (Write mark)) (lent s t)
 
 abbrev pub addLeft : List ℕ → List ℕ → ℕ → Left
-addLeft s t page = hostOf (Add page) (lent s t)
+addLeft s t page = hostOf (OnPage page Add) (lent s t)
 
 abbrev pub acceptLeft : List ℕ → List ℕ → ℕ → Left
-acceptLeft s t page = hostOf (Accept page) (lent s t)
+acceptLeft s t page = hostOf (OnPage page Accept) (lent s t)
 
 abbrev pub blockLeft : List ℕ → List ℕ → ℕ → Left
-blockLeft s t page = hostOf (Block page) (lent s t)
+blockLeft s t page = hostOf (OnPage page Block) (lent s t)
 
 abbrev pub unblockLeft : List ℕ → List ℕ → ℕ → Left
-unblockLeft s t page = hostOf (Unblock page) (lent s t)
+unblockLeft s t page = hostOf (OnPage page Unblock) (lent s t)
 
 abbrev pub removeLeft : List ℕ → List ℕ → ℕ → Left
-removeLeft s t page = hostOf (Remove page) (lent s t)
+removeLeft s t page = hostOf (OnPage page Remove) (lent s t)
 
 abbrev pub trackLeft : List ℕ → List ℕ → Left
-trackLeft s t = hostOf Track (lent s t)
+trackLeft s t = hostOf (OnAll Track) (lent s t)
 
 abbrev pub startLeft : List ℕ → List ℕ → Left
-startLeft s t = hostOf Start (lent s t)
+startLeft s t = hostOf (OnAll Start) (lent s t)
 
 abbrev pub pauseLeft : List ℕ → List ℕ → Left
-pauseLeft s t = hostOf Pause (lent s t)
+pauseLeft s t = hostOf (OnAll Pause) (lent s t)
 
 abbrev pub abortLeft : List ℕ → List ℕ → Left
-abortLeft s t = hostOf Abort (lent s t)
+abortLeft s t = hostOf (OnAll Abort) (lent s t)
 
 abbrev pub newEpochLeft : List ℕ → List ℕ → Left
-newEpochLeft s t = hostOf NewEpoch (lent s t)
+newEpochLeft s t = hostOf (OnSession NewEpoch) (lent s t)
 
 abbrev pub resetLeft : List ℕ → List ℕ → Left
-resetLeft s t = hostOf Reset (lent s t)
+resetLeft s t = hostOf (OnSession Reset) (lent s t)
 
 abbrev pub tokenLeft : List ℕ → List ℕ → Left
 tokenLeft s t = hostOf StartToken (lent s t)
@@ -191,11 +194,11 @@ exportLeft s t l b stream resume info budget =
 
 -- ---- what C gets of the numbers
 
-abbrev pub tokenAnswer : Numbers → ChirpTokenAnswer
-tokenAnswer n = record { code = n .code; page = n .page }
+abbrev pub tokenToC : Numbers → ChirpTokenAnswer
+tokenToC n = record { code = n .code; page = n .page }
 
-abbrev pub scanAnswer : Numbers → ChirpScanAnswer
-scanAnswer n = record { code = n .code; next = n .next; first = n .first; last = n .last }
+abbrev pub scanToC : Numbers → ChirpScanAnswer
+scanToC n = record { code = n .code; next = n .next; first = n .first; last = n .last }
 
-abbrev pub exportAnswer : Numbers → ChirpExportAnswer
-exportAnswer n = record { code = n .code; info = n .info; errors = n .errors; buffers = n .buffers }
+abbrev pub exportToC : Numbers → ChirpExportAnswer
+exportToC n = record { code = n .code; info = n .info; errors = n .errors; buffers = n .buffers }

@@ -7,6 +7,7 @@ use lib.Dec.{eqb}
 use lib.ListN.{length, replicate}
 use Rattle.words.specs.Codes as codes
 use Rattle.refusals.specs.Refusals.{_gives_}
+use Rattle.page.specs.declared.sweeps.Sweep.the-variants.{Track}
 use Rattle.session.specs.Session.{moving, newSession, begun}
 use Rattle.session.specs.Formed.{gated}
 use Rattle.session.specs.declared.Phase.{Phase}
@@ -14,7 +15,7 @@ use Rattle.session.specs.declared.Phase.the-variants.{Live, Blackout}
 use Rattle.session.specs.declared.Session.{Session}
 use Rattle.calls.specs.Promises.{named, refusal}
 use Rattle.calls.specs.declared.Call.{Call}
-use Rattle.calls.specs.declared.Call.the-variants.{Track, Dscan, Dcheck, Export}
+use Rattle.calls.specs.declared.Call.the-variants.{OnAll, Dscan, Dcheck, Export}
 use Rattle.wire.specs.Bytes.{wordsOf, bytesOf}
 use Rattle.wire.specs.Sessions.{sessionOf, sessionWords}
 use Rattle.chirpsteeple.specs.declared.plays.Numbers.{Numbers}
@@ -86,8 +87,8 @@ Gives42 c x = (inLayout c x ≡ true) × (hostOf c x .answer ≡ codeAlone codes
 
 pub record Met : Type 0 where
   -- no bytes
-  pub layout : inLayout Track (lent [] []) ≡ false
-  pub refused : refusal (hostOf Track (lent [] []) .answer .code) ≡ true
+  pub layout : inLayout (OnAll Track) (lent [] []) ≡ false
+  pub refused : refusal (hostOf (OnAll Track) (lent [] []) .answer .code) ≡ true
   -- seven bytes for a list or a buffer, a list of 513, a resume of 2
   pub dscan : Gives42 (Dscan 0 1 1) (onePage Live 7 0 0) × (isList 7 ≡ false)
   pub dcheck : Gives42 (Dcheck 1) (onePage Blackout 4104 0 0) × (isList 4104 ≡ false)

@@ -2,12 +2,12 @@
 ghost use mathlib.Core.Path.{_≡_};
 ghost use Rattle.chirpsteeple.specs.Host.{Left, newLeft, writeLeft, addLeft, acceptLeft, blockLeft, unblockLeft, removeLeft};
 ghost use Rattle.chirpsteeple.specs.Host.{trackLeft, startLeft, pauseLeft, abortLeft, newEpochLeft, resetLeft};
-ghost use Rattle.chirpsteeple.specs.Host.{tokenLeft, dscanLeft, dcheckLeft, exportLeft, tokenAnswer, scanAnswer, exportAnswer};
+ghost use Rattle.chirpsteeple.specs.Host.{tokenLeft, dscanLeft, dcheckLeft, exportLeft, tokenToC, scanToC, exportToC};
 use crate::plays::Numbers;
-use crate::sweeps::Sweeping;
-use crate::tables::Alone;
 use calls::Call;
+use migration::Alone;
 use page::moves::Move;
+use page::sweeps::Sweep;
 use session::When;
 
 mod lists;
@@ -111,7 +111,7 @@ pub extern "C" fn chirp_track(session: &mut [u8], table: &mut [u8]) -> u64
     ensures { λ _. ⌜ now (session .exit) ≡ trackLeft (now (session .entry)) (now (table .entry)) .session ⌝ }
     ensures { λ _. ⌜ now (table .exit) ≡ trackLeft (now (session .entry)) (now (table .entry)) .table ⌝ }
 {
-    sweeps::on_table(Sweeping::Track, session, table)
+    sweeps::on_all(Sweep::Track, session, table)
 }
 
 // ---- the session calls
@@ -122,7 +122,7 @@ pub extern "C" fn chirp_start(session: &mut [u8], table: &mut [u8]) -> u64
     ensures { λ _. ⌜ now (session .exit) ≡ startLeft (now (session .entry)) (now (table .entry)) .session ⌝ }
     ensures { λ _. ⌜ now (table .exit) ≡ startLeft (now (session .entry)) (now (table .entry)) .table ⌝ }
 {
-    sweeps::on_table(Sweeping::Start, session, table)
+    sweeps::on_all(Sweep::Start, session, table)
 }
 
 #[no_mangle]
@@ -131,7 +131,7 @@ pub extern "C" fn chirp_pause(session: &mut [u8], table: &mut [u8]) -> u64
     ensures { λ _. ⌜ now (session .exit) ≡ pauseLeft (now (session .entry)) (now (table .entry)) .session ⌝ }
     ensures { λ _. ⌜ now (table .exit) ≡ pauseLeft (now (session .entry)) (now (table .entry)) .table ⌝ }
 {
-    sweeps::on_table(Sweeping::Pause, session, table)
+    sweeps::on_all(Sweep::Pause, session, table)
 }
 
 #[no_mangle]
@@ -140,7 +140,7 @@ pub extern "C" fn chirp_abort(session: &mut [u8], table: &mut [u8]) -> u64
     ensures { λ _. ⌜ now (session .exit) ≡ abortLeft (now (session .entry)) (now (table .entry)) .session ⌝ }
     ensures { λ _. ⌜ now (table .exit) ≡ abortLeft (now (session .entry)) (now (table .entry)) .table ⌝ }
 {
-    sweeps::on_table(Sweeping::Abort, session, table)
+    sweeps::on_all(Sweep::Abort, session, table)
 }
 
 #[no_mangle]
@@ -163,7 +163,7 @@ pub extern "C" fn chirp_reset(session: &mut [u8], table: &[u8]) -> u64
 
 #[no_mangle]
 pub extern "C" fn chirp_start_token(session: &mut [u8], table: &[u8]) -> ChirpTokenAnswer
-    ensures { λ r. ⌜ r ≡ tokenAnswer (tokenLeft (now (session .entry)) (now (table .entry)) .answer) ⌝ }
+    ensures { λ r. ⌜ r ≡ tokenToC (tokenLeft (now (session .entry)) (now (table .entry)) .answer) ⌝ }
     ensures { λ _. ⌜ now (session .exit) ≡ tokenLeft (now (session .entry)) (now (table .entry)) .session ⌝ }
     ensures { λ _. ⌜ now (table .exit) ≡ tokenLeft (now (session .entry)) (now (table .entry)) .table ⌝ }
 {
@@ -177,7 +177,7 @@ pub extern "C" fn chirp_start_token(session: &mut [u8], table: &[u8]) -> ChirpTo
 // ---- scans and export
 
 fn scan_answer(n: Numbers) -> ChirpScanAnswer
-    ensures { λ r. ⌜ r ≡ scanAnswer n ⌝ }
+    ensures { λ r. ⌜ r ≡ scanToC n ⌝ }
 {
     ChirpScanAnswer {
         code: n.code,
@@ -196,7 +196,7 @@ pub extern "C" fn chirp_dscan(
     list: &mut [u8],
     budget: u64,
 ) -> ChirpScanAnswer
-    ensures { λ r. ⌜ r ≡ scanAnswer (dscanLeft (now (session .entry)) (now (table .entry)) first count (now (list .entry)) budget .answer) ⌝ }
+    ensures { λ r. ⌜ r ≡ scanToC (dscanLeft (now (session .entry)) (now (table .entry)) first count (now (list .entry)) budget .answer) ⌝ }
     ensures { λ _. ⌜ now (session .exit) ≡ dscanLeft (now (session .entry)) (now (table .entry)) first count (now (list .entry)) budget .session ⌝ }
     ensures { λ _. ⌜ now (table .exit) ≡ dscanLeft (now (session .entry)) (now (table .entry)) first count (now (list .entry)) budget .table ⌝ }
     ensures { λ _. ⌜ now (list .exit) ≡ dscanLeft (now (session .entry)) (now (table .entry)) first count (now (list .entry)) budget .list ⌝ }
@@ -216,7 +216,7 @@ pub extern "C" fn chirp_dcheck(
     list: &mut [u8],
     budget: u64,
 ) -> ChirpScanAnswer
-    ensures { λ r. ⌜ r ≡ scanAnswer (dcheckLeft (now (session .entry)) (now (table .entry)) (now (list .entry)) budget .answer) ⌝ }
+    ensures { λ r. ⌜ r ≡ scanToC (dcheckLeft (now (session .entry)) (now (table .entry)) (now (list .entry)) budget .answer) ⌝ }
     ensures { λ _. ⌜ now (session .exit) ≡ dcheckLeft (now (session .entry)) (now (table .entry)) (now (list .entry)) budget .session ⌝ }
     ensures { λ _. ⌜ now (table .exit) ≡ dcheckLeft (now (session .entry)) (now (table .entry)) (now (list .entry)) budget .table ⌝ }
     ensures { λ _. ⌜ now (list .exit) ≡ dcheckLeft (now (session .entry)) (now (table .entry)) (now (list .entry)) budget .list ⌝ }
@@ -238,7 +238,7 @@ pub extern "C" fn chirp_export(
     info: u64,
     budget: u64,
 ) -> ChirpExportAnswer
-    ensures { λ r. ⌜ r ≡ exportAnswer (exportLeft (now (session .entry)) (now (table .entry)) (now (list .entry)) (now (buffer .entry)) stream resume info budget .answer) ⌝ }
+    ensures { λ r. ⌜ r ≡ exportToC (exportLeft (now (session .entry)) (now (table .entry)) (now (list .entry)) (now (buffer .entry)) stream resume info budget .answer) ⌝ }
     ensures { λ _. ⌜ now (session .exit) ≡ exportLeft (now (session .entry)) (now (table .entry)) (now (list .entry)) (now (buffer .entry)) stream resume info budget .session ⌝ }
     ensures { λ _. ⌜ now (table .exit) ≡ exportLeft (now (session .entry)) (now (table .entry)) (now (list .entry)) (now (buffer .entry)) stream resume info budget .table ⌝ }
     ensures { λ _. ⌜ now (list .exit) ≡ exportLeft (now (session .entry)) (now (table .entry)) (now (list .entry)) (now (buffer .entry)) stream resume info budget .list ⌝ }

@@ -6,7 +6,7 @@ ghost use lib.ListN.{length};
 ghost use Rattle.session.specs.Session.{phasesOf};
 ghost use Rattle.chirpsteeple.specs.Host.{Lent, lentList, lentAll, Left, sessionBytes, isTable, isList, played, hostOf};
 ghost use Rattle.chirpsteeple.specs.Promises.{firstGroup};
-ghost use Rattle.chirpsteeple.specs.Inside.{Comes};
+ghost use Rattle.chirpsteeple.specs.Inside.{ComesIn};
 use crate::plays;
 use crate::plays::Numbers;
 use crate::reads;
@@ -105,7 +105,7 @@ pub fn with_lists(
     buffer: &mut [u8],
     resume: u64,
 ) -> Numbers
-    requires { ⌜ Comes call (phasesOf when) ⌝ }
+    requires { ⌜ ComesIn call (phasesOf when) ⌝ }
     ensures { λ r. ⌜ r ≡ hostOf call (lentAll (now (session .entry)) (now (table .entry)) (now (list .entry)) (now (buffer .entry)) resume) .answer ⌝ }
     ensures { λ _. ⌜ now (session .exit) ≡ hostOf call (lentAll (now (session .entry)) (now (table .entry)) (now (list .entry)) (now (buffer .entry)) resume) .session ⌝ }
     ensures { λ _. ⌜ now (table .exit) ≡ hostOf call (lentAll (now (session .entry)) (now (table .entry)) (now (list .entry)) (now (buffer .entry)) resume) .table ⌝ }
@@ -134,7 +134,7 @@ pub fn with_list(
     table: &mut [u8],
     list: &mut [u8],
 ) -> Numbers
-    requires { ⌜ Comes call (phasesOf when) ⌝ }
+    requires { ⌜ ComesIn call (phasesOf when) ⌝ }
     ensures { λ r. ⌜ r ≡ hostOf call (lentList (now (session .entry)) (now (table .entry)) (now (list .entry))) .answer ⌝ }
     ensures { λ _. ⌜ now (session .exit) ≡ hostOf call (lentList (now (session .entry)) (now (table .entry)) (now (list .entry))) .session ⌝ }
     ensures { λ _. ⌜ now (table .exit) ≡ hostOf call (lentList (now (session .entry)) (now (table .entry)) (now (list .entry))) .table ⌝ }

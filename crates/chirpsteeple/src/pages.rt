@@ -1,16 +1,16 @@
 // Calls on one page: its sixteen bytes and the session's are read, and its sixteen written.
 ghost use mathlib.Core.Path.{_≡_};
+ghost use Rattle.calls.specs.declared.Call.the-variants.{OnPage};
 ghost use Rattle.chirpsteeple.specs.Host.{lent, Left, hostOf};
-ghost use Rattle.chirpsteeple.specs.Inside.{callOn};
 use crate::reads;
 use page::moves::Move;
 use wire::tables;
 use words::codes;
 
 pub fn on_page(m: Move, session: &[u8], table: &mut [u8], page: u64) -> u64
-    ensures { λ r. ⌜ r ≡ hostOf (callOn m page) (lent (now (session .entry)) (now (table .entry))) .answer .code ⌝ }
-    ensures { λ _. ⌜ now (session .exit) ≡ hostOf (callOn m page) (lent (now (session .entry)) (now (table .entry))) .session ⌝ }
-    ensures { λ _. ⌜ now (table .exit) ≡ hostOf (callOn m page) (lent (now (session .entry)) (now (table .entry))) .table ⌝ }
+    ensures { λ r. ⌜ r ≡ hostOf (OnPage page m) (lent (now (session .entry)) (now (table .entry))) .answer .code ⌝ }
+    ensures { λ _. ⌜ now (session .exit) ≡ hostOf (OnPage page m) (lent (now (session .entry)) (now (table .entry))) .session ⌝ }
+    ensures { λ _. ⌜ now (table .exit) ≡ hostOf (OnPage page m) (lent (now (session .entry)) (now (table .entry))) .table ⌝ }
 {
     let found = reads::read(session, table.len());
     let s = found.session;

@@ -1,84 +1,45 @@
 // Calls on every page: New, track, start, pause and abort. The table's bytes are read, moved and cleared in place; a call that is refused writes none.
 ghost use mathlib.Core.Path.{_≡_};
-ghost use mathlib.Core.Bool.{true};
-ghost use Rattle.page.specs.Page.{sought};
-ghost use Rattle.table.specs.Table.{some};
-ghost use Rattle.migration.specs.Migration.{startOut, pauseOut};
-ghost use Rattle.calls.specs.declared.Call.the-variants.{New};
+ghost use mathlib.Core.Bool.{_&&_};
+ghost use Rattle.migration.specs.Migration.{stopped, onAll};
+ghost use Rattle.calls.specs.declared.Call.the-variants.{New, OnAll};
 ghost use Rattle.wire.specs.Bytes.{wordsOf};
 ghost use Rattle.chirpsteeple.specs.Host.{Lent, lent, Left, hostOf};
-ghost use Rattle.chirpsteeple.specs.Inside.{sweepFor, sweepingOut, callSweeping};
 use crate::plays;
 use crate::reads;
-use page::queries::Sought;
+use migration::Stops;
 use page::sweeps::Sweep;
 use session::Answer;
 use session::Session;
-use session::When;
 use wire::sessions;
 use wire::tables;
 use words::codes;
 
-// A call that moves every page.
-pub enum Sweeping {
-    Track,
-    Start,
-    Pause,
-    Abort,
-}
-
-fn sweep_for(k: Sweeping) -> Sweep
-    ensures { λ r. ⌜ r ≡ sweepFor k ⌝ }
-{
-    match k {
-        Sweeping::Track => Sweep::Uncache,
-        Sweeping::Start => Sweep::Start,
-        Sweeping::Pause => Sweep::Uncache,
-        Sweeping::Abort => Sweep::Abort,
-    }
-}
-
-// Whether there is a page of the kind. No page is looked at unless asked.
-fn seen(asked: bool, table: &[u8], k: Sought) -> bool
-    ensures { λ r. ⌜ (asked ≡ true → r ≡ some (sought k) (wordsOf (now (table .entry)))) ⌝ }
+// Whether the table has what stops a call. No page is looked at unless asked.
+fn is_stopped(asked: bool, table: &[u8], k: Stops) -> bool
+    ensures { λ r. ⌜ r ≡ (asked && stopped k (wordsOf (now (table .entry)))) ⌝ }
 {
     if asked {
-        return tables::has(table, k);
+        return match k {
+            Stops::Never => false,
+            Stops::At { kind } => tables::has(table, kind),
+        };
     }
     false
 }
 
-fn start(s: Session, table: &[u8]) -> Answer
-    ensures { λ r. ⌜ r ≡ startOut s (wordsOf (now (table .entry))) .answer ⌝ }
+fn answer_of(k: Sweep, s: Session, table: &[u8]) -> Answer
+    ensures { λ r. ⌜ r ≡ onAll k s (wordsOf (now (table .entry))) .answer ⌝ }
 {
-    let gate = session::gate(s, table.len() / 8, When::Idle);
-    let stops = seen(gate == codes::DONE, table, Sought::Unstartable);
-    migration::start_answer(s, gate, stops)
+    let gate = migration::sweep_gate(k, s, table.len() / 8);
+    let stops = is_stopped(gate == codes::DONE, table, migration::stops_at(k));
+    migration::sweep_answer(k, s, gate, stops)
 }
 
-fn pause(s: Session, table: &[u8]) -> Answer
-    ensures { λ r. ⌜ r ≡ pauseOut s (wordsOf (now (table .entry))) .answer ⌝ }
-{
-    let gate = session::gate(s, table.len() / 8, When::Live);
-    let blocked = seen(gate == codes::DONE, table, Sought::Blocked);
-    migration::pause_answer(s, gate, blocked)
-}
-
-fn answer_of(k: Sweeping, s: Session, table: &[u8]) -> Answer
-    ensures { λ r. ⌜ r ≡ sweepingOut k s (wordsOf (now (table .entry))) .answer ⌝ }
-{
-    match k {
-        Sweeping::Track => memory::track_answer(s, table.len() / 8),
-        Sweeping::Start => start(s, table),
-        Sweeping::Pause => pause(s, table),
-        Sweeping::Abort => migration::abort_answer(s, table.len() / 8),
-    }
-}
-
-pub fn on_table(k: Sweeping, session: &mut [u8], table: &mut [u8]) -> u64
-    ensures { λ r. ⌜ r ≡ hostOf (callSweeping k) (lent (now (session .entry)) (now (table .entry))) .answer .code ⌝ }
-    ensures { λ _. ⌜ now (session .exit) ≡ hostOf (callSweeping k) (lent (now (session .entry)) (now (table .entry))) .session ⌝ }
-    ensures { λ _. ⌜ now (table .exit) ≡ hostOf (callSweeping k) (lent (now (session .entry)) (now (table .entry))) .table ⌝ }
+pub fn on_all(k: Sweep, session: &mut [u8], table: &mut [u8]) -> u64
+    ensures { λ r. ⌜ r ≡ hostOf (OnAll k) (lent (now (session .entry)) (now (table .entry))) .answer .code ⌝ }
+    ensures { λ _. ⌜ now (session .exit) ≡ hostOf (OnAll k) (lent (now (session .entry)) (now (table .entry))) .session ⌝ }
+    ensures { λ _. ⌜ now (table .exit) ≡ hostOf (OnAll k) (lent (now (session .entry)) (now (table .entry))) .table ⌝ }
 {
     let found = reads::read(&session[..], table.len());
     let s = found.session;
@@ -87,8 +48,7 @@ pub fn on_table(k: Sweeping, session: &mut [u8], table: &mut [u8]) -> u64
         let code = answer.code;
         let next = answer.session;
         if code == codes::DONE {
-            let sweep = sweep_for(k);
-            tables::sweep_all(table, sweep);
+            tables::sweep_all(table, k);
             plays::put_session(session, next);
         }
         return code;

@@ -1,51 +1,32 @@
 // Calls that write no byte of the table: new epoch and reset, which ask for its length alone, and the start token, which looks at its pages in place.
 ghost use mathlib.Core.Path.{_≡_};
 ghost use mathlib.Core.Bool.{true};
-ghost use mathlib.Core.List.{List};
-ghost use Prim.Native.Nat.{ℕ};
-ghost use lib.ListN.{length};
 ghost use Rattle.page.specs.Page.{sought};
 ghost use Rattle.table.specs.Table.{pageCount, lowest};
 ghost use Rattle.migration.specs.Token.{tokenOut};
 ghost use Rattle.wire.specs.Bytes.{wordsOf};
-ghost use Rattle.calls.specs.declared.Call.the-variants.{StartToken};
+ghost use Rattle.calls.specs.declared.Call.the-variants.{OnSession, StartToken};
 ghost use Rattle.chirpsteeple.specs.Host.{Lent, lent, Left, hostOf};
-ghost use Rattle.chirpsteeple.specs.Inside.{aloneOut, callAlone};
 use crate::plays;
 use crate::plays::Numbers;
 use crate::reads;
+use migration::Alone;
 use migration::token;
 use migration::token::TokenAnswer;
 use page::queries::Sought;
-use session::Answer;
 use session::Session;
 use wire::tables;
 use words::codes;
 
-// A call on the session alone.
-pub enum Alone {
-    NewEpoch,
-    Reset,
-}
-
-fn make(k: Alone, s: Session, len: usize) -> Answer
-    ensures { λ r. ⌜ ((t : List ℕ) → length t ≡ len → r ≡ aloneOut k s t .answer) ⌝ }
-{
-    match k {
-        Alone::NewEpoch => migration::new_epoch(s, len),
-        Alone::Reset => migration::reset(s, len),
-    }
-}
-
 pub fn on_session(k: Alone, session: &mut [u8], table: &[u8]) -> u64
-    ensures { λ r. ⌜ r ≡ hostOf (callAlone k) (lent (now (session .entry)) (now (table .entry))) .answer .code ⌝ }
-    ensures { λ _. ⌜ now (session .exit) ≡ hostOf (callAlone k) (lent (now (session .entry)) (now (table .entry))) .session ⌝ }
-    ensures { λ _. ⌜ now (table .exit) ≡ hostOf (callAlone k) (lent (now (session .entry)) (now (table .entry))) .table ⌝ }
+    ensures { λ r. ⌜ r ≡ hostOf (OnSession k) (lent (now (session .entry)) (now (table .entry))) .answer .code ⌝ }
+    ensures { λ _. ⌜ now (session .exit) ≡ hostOf (OnSession k) (lent (now (session .entry)) (now (table .entry))) .session ⌝ }
+    ensures { λ _. ⌜ now (table .exit) ≡ hostOf (OnSession k) (lent (now (session .entry)) (now (table .entry))) .table ⌝ }
 {
     let found = reads::read(&session[..], table.len());
     let s = found.session;
     if found.fits {
-        let answer = make(k, s, table.len() / 8);
+        let answer = migration::on_session(k, s, table.len() / 8);
         let code = answer.code;
         let next = answer.session;
         plays::put_unless(code, session, next);

@@ -1,7 +1,7 @@
 -- What is left is what `with_list` leaves; the answer is its numbers, as a scan has them.
 use borrow.Author.Needs.{needs}
 use Rattle.chirpsteeple.proofs.ListLaws.{dcheck-comes}
-use Rattle.chirpsteeple.specs.Host.{scanAnswer}
+use Rattle.chirpsteeple.specs.Host.{scanToC}
 use mathlib.Core.Path.{ap, _∙_}
 use Rattle.chirpsteeple.proofs.chirp_dcheck.Statement.{statement}
 use Rattle.chirpsteeple.proofs.chirp_dcheck.Tie as tie
@@ -24,7 +24,7 @@ same-length-3 c = search needs
 returns : tie.Need-returns
 returns c =
     let w = c .before .before .before .before .before .before .before .with-list .ensures in
-    (c .scan-answer .ensures ∙ ap scanAnswer (w .0), w .1)
+    (c .scan-answer .ensures ∙ ap scanToC (w .0), w .1)
 
 pub chirp-dcheck-spec : {M : Type 1} → statement M
 chirp-dcheck-spec = tie.close (tie.spec with-list-requires scan-answer-requires same-length same-length-2 same-length-3 returns)

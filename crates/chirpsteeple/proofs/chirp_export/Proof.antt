@@ -1,7 +1,7 @@
 -- What is left is what `with_lists` leaves; the answer is its numbers, as an export has them.
 use borrow.Author.Needs.{needs}
 use Rattle.chirpsteeple.proofs.ListLaws.{export-comes}
-use Rattle.chirpsteeple.specs.Host.{exportAnswer}
+use Rattle.chirpsteeple.specs.Host.{exportToC}
 use mathlib.Core.Path.{ap}
 use Rattle.chirpsteeple.proofs.chirp_export.Statement.{statement}
 use Rattle.chirpsteeple.proofs.chirp_export.Tie as tie
@@ -24,7 +24,7 @@ same-length-4 c = search needs
 returns : tie.Need-returns
 returns c =
     let w = c .before .before .before .before .before .before .before .before .with-lists .ensures in
-    (ap exportAnswer (w .0), w .1)
+    (ap exportToC (w .0), w .1)
 
 pub chirp-export-spec : {M : Type 1} → statement M
 chirp-export-spec = tie.close (tie.spec with-lists-requires same-length same-length-2 same-length-3 same-length-4 returns)

@@ -6,10 +6,11 @@ use lib.ListN.{length}
 use borrow.Author.Needs.{needs}
 use borrow.Author.Tests.{eq-eqb, ne-eqb}
 use denote.Ref.{now}
+use Rattle.calls.specs.declared.Call.the-variants.{OnPage}
 use Rattle.chirpsteeple.specs.Host.{lent, hostOf}
-use Rattle.chirpsteeple.specs.Inside.{readable, callOn}
+use Rattle.chirpsteeple.specs.Inside.{readable}
 use Rattle.chirpsteeple.proofs.LayoutLaws.{host-refused}
-use Rattle.chirpsteeple.proofs.PageLaws.{turnOn, turnLeft, page-reads, one-page}
+use Rattle.chirpsteeple.proofs.PageLaws.{turnOn, turnLeft, one-page}
 use Rattle.chirpsteeple.proofs.pages.on_page.Statement.{statement}
 use Rattle.chirpsteeple.proofs.pages.on_page.Tie as tie
 
@@ -32,7 +33,7 @@ same-length c = search needs
 turned :
     (c : tie.After-on-words) →
     let a = c .before .before .before .before .before .before .before .before .args in
-    hostOf (callOn (a .m) (a .page)) (lent (now (a .session)) (now (a .table))) ≡ turnLeft (now (a .session)) (now (a .table)) (a .page) (c .on-words .result)
+    hostOf (OnPage (a .page) (a .m)) (lent (now (a .session)) (now (a .table))) ≡ turnLeft (now (a .session)) (now (a .table)) (a .page) (c .on-words .result)
 turned c =
     let at-load = c .before in
     let at-if1 = at-load .before .before in
@@ -62,7 +63,7 @@ returns-3 : tie.Need-returns-3
 returns-3 c =
     let at-read = c .before .before in
     let a = at-read .before .before .before .args in
-    rw (host-refused (callOn (a .m) (a .page)) (lent (now (a .session)) (now (a .table))) (page-reads (a .m) (a .page)) (sym (at-read .read .ensures .0) ∙ c .if1 .left)) (refl, (refl, refl))
+    rw (host-refused (OnPage (a .page) (a .m)) (lent (now (a .session)) (now (a .table))) refl (sym (at-read .read .ensures .0) ∙ c .if1 .left)) (refl, (refl, refl))
 
 pub on-page-spec : {M : Type 1} → statement M
 on-page-spec = tie.close (tie.spec read-requires load-requires on-words-requires store-requires same-length returns same-length-2 returns-2 returns-3)

@@ -1,4 +1,4 @@
--- In the layouts what is left is by the answer (`sweeping-left`), and else 40.
+-- In the layouts what is left is by the answer (`sweep-left`), and else 40.
 use borrow.Author.Needs.{needs}
 use mathlib.Core.Path.{refl, sym, ap, _∙_}
 use borrow.Author.Tests.{eq-eqb, ne-eqb}
@@ -7,13 +7,14 @@ use Rattle.page.specs.Page.{onWords}
 use Rattle.page.specs.Sweeps.{sweptBy}
 use Rattle.table.specs.Table.{sweepOf}
 use Rattle.session.specs.declared.Session.{Session}
+use Rattle.migration.specs.Migration.{onAll}
+use Rattle.calls.specs.declared.Call.the-variants.{OnAll}
 use Rattle.wire.specs.Bytes.{wordsOf, bytesOf}
 use Rattle.chirpsteeple.specs.Host.{lent, hostOf}
-use Rattle.chirpsteeple.specs.Inside.{sweepFor, sweepingOut, callSweeping}
 use Rattle.chirpsteeple.proofs.LayoutLaws.{readable-means, table-whole, host-refused}
-use Rattle.chirpsteeple.proofs.SweepLaws.{Leaves, sweeping-reads, sweeping-left}
-use Rattle.chirpsteeple.proofs.sweeps.on_table.Statement.{statement}
-use Rattle.chirpsteeple.proofs.sweeps.on_table.Tie as tie
+use Rattle.chirpsteeple.proofs.SweepLaws.{Leaves, sweep-left}
+use Rattle.chirpsteeple.proofs.sweeps.on_all.Statement.{statement}
+use Rattle.chirpsteeple.proofs.sweeps.on_all.Tie as tie
 
 read-requires : tie.Need-read-requires
 read-requires c κs = search needs
@@ -21,17 +22,14 @@ read-requires c κs = search needs
 answer-of-requires : tie.Need-answer-of-requires
 answer-of-requires c κs = search needs
 
-sweep-for-requires : tie.Need-sweep-for-requires
-sweep-for-requires c κs = search needs
-
 sweep-all-requires : tie.Need-sweep-all-requires
 sweep-all-requires c κs =
-    let at-if1 = c .before .before .before .before .before .before in
+    let at-if1 = c .before .before .before .before .before in
     table-whole _ (readable-means _ _ (sym (at-if1 .before .before .read .ensures .0) ∙ at-if1 .if1 .taken) .table)
 
 put-session-requires : tie.Need-put-session-requires
 put-session-requires c κs =
-    let at-if1 = c .before .before .before .before .before .before .before .before .before .before in
+    let at-if1 = c .before .before .before .before .before .before .before .before .before in
     readable-means _ _ (sym (at-if1 .before .before .read .ensures .0) ∙ at-if1 .if1 .taken) .long
 
 same-length : tie.Need-same-length
@@ -45,26 +43,25 @@ left :
     (c : tie.After-answer-of) →
     let a = c .before .before .before .before .before .before .before .before .args in
     let t = wordsOf (now (a .table)) in
-    Leaves (now (a .session)) (now (a .table)) (c .answer-of .result) (bytesOf (sweepOf (onWords (sweptBy (sweepFor (a .k)))) t)) (hostOf (callSweeping (a .k)) (lent (now (a .session)) (now (a .table))))
+    Leaves (now (a .session)) (now (a .table)) (c .answer-of .result) (bytesOf (sweepOf (onWords (sweptBy (a .k))) t)) (hostOf (OnAll (a .k)) (lent (now (a .session)) (now (a .table))))
 left c =
     let at-if1 = c .before .before in
     let at-read = at-if1 .before .before in
     let at-table = at-read .before .before in
     let a = at-table .before .before .args in
-    sweeping-left (a .k) (now (a .session)) (now (a .table)) (c .answer-of .result)
+    sweep-left (a .k) (now (a .session)) (now (a .table)) (c .answer-of .result)
     (λ i. at-table .before .slice-known .given i .fits)
     (λ i. at-table .slice-known2 .given i .fits)
     (sym (at-read .read .ensures .0) ∙ at-if1 .if1 .taken)
-    (c .answer-of .ensures ∙ ap (λ (x : Session). sweepingOut (a .k) x (wordsOf (now (a .table))) .answer) (at-read .read .ensures .1 (at-if1 .if1 .taken)))
+    (c .answer-of .ensures ∙ ap (λ (x : Session). onAll (a .k) x (wordsOf (now (a .table))) .answer) (at-read .read .ensures .1 (at-if1 .if1 .taken)))
 
 returns : tie.Need-returns
 returns c =
     let at-put = c .before .before in
     let at-sweep = at-put .before .before .before .before in
-    let at-for = at-sweep .before .before in
-    let at-if2 = at-for .before in
+    let at-if2 = at-sweep .before .before in
     let done = rw (eq-eqb _ _ (at-if2 .if2 .taken)) at (left (at-if2 .before .before)) in
-    (done .0, (at-put .put-session .ensures ∙ done .1 .0, rw (at-for .sweep-for .ensures) at (at-sweep .sweep-all .ensures) ∙ done .1 .1))
+    (done .0, (at-put .put-session .ensures ∙ done .1 .0, at-sweep .sweep-all .ensures ∙ done .1 .1))
 
 same-length-3 : tie.Need-same-length-3
 same-length-3 c = search needs
@@ -82,15 +79,14 @@ returns-3 : tie.Need-returns-3
 returns-3 c =
     let at-read = c .before .before in
     let a = at-read .before .before .before .before .args in
-    rw (host-refused (callSweeping (a .k)) (lent (now (a .session)) (now (a .table))) (sweeping-reads (a .k)) (sym (at-read .read .ensures .0) ∙ c .if1 .left)) (refl, (refl, refl))
+    rw (host-refused (OnAll (a .k)) (lent (now (a .session)) (now (a .table))) refl (sym (at-read .read .ensures .0) ∙ c .if1 .left)) (refl, (refl, refl))
 
-pub on-table-spec : {M : Type 1} → statement M
-on-table-spec =
+pub on-all-spec : {M : Type 1} → statement M
+on-all-spec =
     tie.close
     (tie.spec
     read-requires
     answer-of-requires
-    sweep-for-requires
     sweep-all-requires
     put-session-requires
     same-length
