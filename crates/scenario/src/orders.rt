@@ -2,6 +2,9 @@
 use crate::lines::Line;
 use crate::names;
 use calls::Call;
+use migration::Alone;
+use page::moves::Move;
+use page::sweeps::Sweep;
 
 pub(crate) enum Order {
     Call(Call),
@@ -9,6 +12,18 @@ pub(crate) enum Order {
     Change,
     // Anything else, which leaves the session alone.
     Other,
+}
+
+fn on_page(page: usize, made: Move) -> Order {
+    Order::Call(Call::OnPage { page, made })
+}
+
+fn on_all(sweep: Sweep) -> Order {
+    Order::Call(Call::OnAll { sweep })
+}
+
+fn on_session(alone: Alone) -> Order {
+    Order::Call(Call::OnSession { alone })
 }
 
 // What a line's word asks for, with the numbers behind it.
@@ -19,17 +34,17 @@ pub(crate) fn order_of(l: Line) -> Order {
     let page = first as usize;
     match name {
         names::NEW => Order::Call(Call::New { created: first }),
-        names::WRITE => Order::Call(Call::Write { page, mark: second }),
-        names::ADD => Order::Call(Call::Add { page }),
-        names::ACCEPT => Order::Call(Call::Accept { page }),
-        names::BLOCK => Order::Call(Call::Block { page }),
-        names::UNBLOCK => Order::Call(Call::Unblock { page }),
-        names::REMOVE => Order::Call(Call::Remove { page }),
-        names::TRACK => Order::Call(Call::Track),
-        names::START => Order::Call(Call::Start),
-        names::PAUSE => Order::Call(Call::Pause),
-        names::ABORT => Order::Call(Call::Abort),
-        names::NEWEPOCH => Order::Call(Call::NewEpoch),
+        names::WRITE => on_page(page, Move::Write { mark: second }),
+        names::ADD => on_page(page, Move::Add),
+        names::ACCEPT => on_page(page, Move::Accept),
+        names::BLOCK => on_page(page, Move::Block),
+        names::UNBLOCK => on_page(page, Move::Unblock),
+        names::REMOVE => on_page(page, Move::Remove),
+        names::TRACK => on_all(Sweep::Track),
+        names::START => on_all(Sweep::Start),
+        names::PAUSE => on_all(Sweep::Pause),
+        names::ABORT => on_all(Sweep::Abort),
+        names::NEWEPOCH => on_session(Alone::NewEpoch),
         names::DSCAN => Order::Call(Call::Dscan {
             first: page,
             count: second as usize,
@@ -38,7 +53,7 @@ pub(crate) fn order_of(l: Line) -> Order {
         names::DCHECK => Order::Call(Call::Dcheck {
             budget: first as usize,
         }),
-        names::RESET => Order::Call(Call::Reset),
+        names::RESET => on_session(Alone::Reset),
         names::EXPORT => Order::Call(Call::Export {
             stream: first,
             resume: second != 0,
