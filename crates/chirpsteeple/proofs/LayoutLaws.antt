@@ -45,7 +45,7 @@ table-kept b y e = bytes-back b y (table-whole (length b) e)
 pub session-kept : (s : List ℕ) (len : ℕ) → Bytes s → readable s len ≡ true → bytesOf (sessionWords (sessionOf (wordsOf s))) ≡ s
 session-kept s len y e =
     let h = readable-means s len e in
-    let long : length s ≡ 384 = h .long in
+    let long : length s ≡ 8 * sessionLength = h .long in
     let words : length (wordsOf s) ≡ sessionLength = rw (words-length s) (omega arith) in
     ap bytesOf (layout-back (wordsOf s) words (h .layout)) ∙ bytes-back s y (omega arith)
 

@@ -1,9 +1,7 @@
 // A list, whichever call takes it: what is asked of it and of its info word, its entries in turn, and the info word as it comes back.
 ghost use mathlib.Core.Path.{_≡_};
-ghost use Prim.Native.Nat.{_≤_};
 ghost use Rattle.words.specs.Info.{infoWord, withFirst};
 ghost use Rattle.refusals.specs.Refusals.{firstOf};
-ghost use Rattle.session.specs.Formed.{lastEntry};
 ghost use Rattle.lists.specs.Kinds.{takenBy};
 ghost use Rattle.lists.specs.List.{listTests, isOver, infoBack};
 use entry::Ground;
@@ -74,13 +72,15 @@ fn info_from(x: Info, first: u64) -> u64
     })
 }
 
+// FIRST counts to 511 and then from 0 again.
+const PLACES: u64 = streams::LAST_ENTRY + 1;
+
 // The info word as it comes back: it tells where the operation goes on.
 pub fn info_back(x: Info, next: u64) -> u64
-    requires { ⌜ x .last ≤ lastEntry ⌝ }
     ensures { λ r. ⌜ r ≡ infoBack x next ⌝ }
 {
     if is_over(x, next) {
-        return info_from(x, (x.last + 1) % (streams::LAST_ENTRY + 1));
+        return info_from(x, (x.last % PLACES + 1) % PLACES);
     }
     info_from(x, next)
 }

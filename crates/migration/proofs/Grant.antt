@@ -17,7 +17,7 @@ use Rattle.page.specs.Page.{pageOf, strange, gives53, gives54}
 use Rattle.page.specs.Page.{Page}
 use Rattle.table.specs.Table.{legal, wordsAt, pageCount, pageAt, some, Lowest}
 use Rattle.table.proofs.Laws.{some-none, none-some, some-lowest}
-use Rattle.session.specs.Session.{among, atRest}
+use Rattle.session.specs.Session.{among, newSession, begun, withCheck}
 use Rattle.session.specs.Formed.{workResting, formed, gateTests, gated, busy}
 use Rattle.session.specs.declared.Phase.{Phase}
 use Rattle.session.specs.declared.Phase.the-variants.{Idle, Live, Blackout, Done}
@@ -152,7 +152,7 @@ names-the-lowest = record { changed = lowest-53; unsent = lowest-54; before = no
 
 abbrev paused : Session
 paused =
-    record { phase = Blackout; epoch = 1; fixed = record { pages = 3; created = 2 }; clock = record { tlb = 2 }; check = record { place = 3; complete = true; failed = false }; streams = atRest }
+    withCheck (begun (newSession 3 2) Blackout 1) (record { place = 3; complete = true; failed = false })
 
 abbrev exported : List ℕ
 exported = 0 ∷ 0 ∷ 24 ∷ 7 ∷ 29 ∷ 0 ∷ []

@@ -1,9 +1,6 @@
 // The host's hand on what is the host's to keep: the session, in which it sets any field to any value, and how many words of each space it lends.
 use crate::lines::Line;
 use crate::names;
-use page::Clock;
-use session::Check;
-use session::Fixed;
 use session::Phase;
 use session::Session;
 use session::streams;
@@ -11,23 +8,9 @@ use session::streams::Work;
 
 // The session that a scenario begins with.
 pub(crate) fn zeros() -> Session {
-    let check = Check {
-        place: 0,
-        complete: false,
-        failed: false,
-    };
-    let streams = streams::at_rest();
-    Session {
-        phase: Phase::Idle,
-        epoch: 0,
-        fixed: Fixed {
-            pages: 0,
-            created: 0,
-        },
-        clock: Clock { tlb: 0 },
-        check,
-        streams,
-    }
+    let mut s = session::new_session(0, 0);
+    s.clock.tlb = 0;
+    s
 }
 
 // The phase of a number, in the order of document 01.

@@ -221,18 +221,13 @@ pub fn new_session(pages: usize, created: u64) -> Session
 pub fn begin(s: Session, phase: Phase, epoch: u64) -> Session
     ensures { λ r. ⌜ r ≡ begun s phase epoch ⌝ }
 {
-    let fixed = s.fixed;
-    let clock = s.clock;
     let check = no_check();
     let streams = streams::at_rest();
-    Session {
-        phase,
-        epoch,
-        fixed,
-        clock,
-        check,
-        streams,
-    }
+    let mut next = with_phase(s, phase);
+    next.epoch = epoch;
+    next.check = check;
+    next.streams = streams;
+    next
 }
 
 pub fn with_phase(s: Session, phase: Phase) -> Session
@@ -243,7 +238,7 @@ pub fn with_phase(s: Session, phase: Phase) -> Session
     let check = s.check;
     let streams = s.streams;
     Session {
-        phase,
+        phase, // a field that is an enum cannot be set by itself
         epoch: s.epoch,
         fixed,
         clock,

@@ -1,7 +1,7 @@
 -- By the laws of words in bytes and of sessions in words.
 use mathlib.Core.Path.{_≡_, refl, ap, _∙_}
 use mathlib.Core.List.{List}
-use Prim.Native.Nat.{ℕ, zero, suc}
+use Prim.Native.Nat.{ℕ, zero, suc, _*_}
 use native.Mathlib.Omega.{arith}
 use lib.Dec.{lit<}
 use lib.ListN.{length, replicate}
@@ -14,7 +14,7 @@ use Rattle.wire.specs.Promises.{ReadsBack, Met}
 use Rattle.wire.proofs.BytesLaws.{words-length, words-back, bytes-back}
 use Rattle.wire.proofs.SessionLaws.{session-back, session-fits, layout-back, session-words, formed-numbers}
 
-whole : (b : List ℕ) → length b ≡ 384 → length (wordsOf b) ≡ sessionLength
+whole : (b : List ℕ) → length b ≡ 8 * sessionLength → length (wordsOf b) ≡ sessionLength
 whole b e = rw (words-length b) (omega arith)
 
 pub reads-back : ReadsBack
@@ -32,4 +32,4 @@ zeros-bytes (suc n) (suc i) = zeros-bytes n i
 
 pub met : Met
 unfolding formed busy legal fits wordsOf wordAt
-met = record { formed = refl; numbers = formed-numbers (newSession 1 2) 2 refl; streams = refl; bytes = zeros-bytes 384; long = refl; fits = refl }
+met = record { formed = refl; numbers = formed-numbers (newSession 1 2) 2 refl; streams = refl; bytes = zeros-bytes (8 * sessionLength); long = refl; fits = refl }

@@ -8,7 +8,7 @@ use Rattle.export.proofs.finish.Statement.{statement}
 use Rattle.export.proofs.finish.Tie as tie
 
 info-back-requires : tie.Need-info-back-requires
-info-back-requires c κs = c .pre .0
+info-back-requires c κs = search needs
 
 is-over-requires : tie.Need-is-over-requires
 is-over-requires c κs = search needs
