@@ -1,5 +1,5 @@
--- The laws of a run, for any step: one for each way that a turn goes; what every step keeps, a run keeps; no count passes the next index. And what is known past
--- the tests of a list.
+-- The laws of a run, for any step: one for each way that a turn goes; what every step keeps, a run keeps; no count passes the next index. And what is
+-- known past the tests of a list.
 use mathlib.Core.Path.{_≡_, refl, ap, _∙_}
 use mathlib.Core.Logic.{_⊎_, inl, inr, ⊎-elim}
 use mathlib.Core.Bool.{Bool, true, false, cond, not, _&&_}
@@ -32,21 +32,24 @@ unfolding listRun
 run-end f last zero s h = refl
 run-end f last (suc k) s h = rw (lt-leb (s .at .next) last h)
 
-pub run-step : (f : Step) (last budget spent : ℕ) (s : Standing) → spent < budget → s .at .next ≤ last → listRun f last (budget - spent) s ≡ listRun f last (budget - (spent + 1)) (stepped f s)
+pub run-step : (f : Step) (last budget spent : ℕ) (s : Standing) → spent < budget → s .at .next ≤ last →
+    listRun f last (budget - spent) s ≡ listRun f last (budget - (spent + 1)) (stepped f s)
 unfolding listRun
 run-step f last budget spent s h k =
     let more : budget - spent ≡ suc (budget - (spent + 1)) = omega arith in
     rw (more, le-leb (s .at .next) last k)
 
 -- what every step keeps
-pub run-keeps : (P : Standing → Type 0) (f : Step) (last : ℕ) → ((s : Standing) → s .at .next ≤ last → P s → P (stepped f s)) → (budget : ℕ) (s : Standing) → P s → P (listRun f last budget s)
+pub run-keeps : (P : Standing → Type 0) (f : Step) (last : ℕ) → ((s : Standing) → s .at .next ≤ last → P s → P (stepped f s)) → (budget : ℕ) (s : Standing) →
+    P s → P (listRun f last budget s)
 unfolding listRun
 run-keeps P f last keeps zero s h = h
 run-keeps P f last keeps (suc budget) s h =
     either P (leb (s .at .next) last) (λ q. run-keeps P f last keeps budget (stepped f s) (keeps s (leb-true _ _ q) h)) (λ q. h)
 
 -- the budget is used up, or the list is at its end
-pub run-far : (f : Step) (last budget : ℕ) (s : Standing) → (s .at .next + budget ≤ listRun f last budget s .at .next) ⊎ (last < listRun f last budget s .at .next)
+pub run-far : (f : Step) (last budget : ℕ) (s : Standing) →
+    (s .at .next + budget ≤ listRun f last budget s .at .next) ⊎ (last < listRun f last budget s .at .next)
 unfolding listRun stepped counted
 run-far f last zero s = inl (omega arith)
 run-far f last (suc budget) s =
@@ -81,12 +84,14 @@ pub record Bounds (last : ℕ) (at : Progress) : Type 0 where
   pub counts : Counts at
 
 pub run-bounds : (f : Step) (last budget : ℕ) (s : Standing) → Bounds last (s .at) → Bounds last (listRun f last budget s .at)
-run-bounds f last = run-keeps (λ (x : Standing). Bounds last (x .at)) f last (λ s h b. record { next = next-step f s last h; counts = counts-step f s (b .counts) })
+run-bounds f last = run-keeps (λ (x : Standing). Bounds last (x .at)) f last
+    (λ s h b. record { next = next-step f s last h; counts = counts-step f s (b .counts) })
 
 -- ---- what is known past the tests of a list
 
 -- before others they are one test
-pub list-test : (entries : ℕ) (x : Info) (m : List Test) → firstOf (listTests entries x ++ m) ≡ firstOf (not (eqb (firstOf (listTests entries x)) 0) gives firstOf (listTests entries x) ∷ m)
+pub list-test : (entries : ℕ) (x : Info) (m : List Test) →
+    firstOf (listTests entries x ++ m) ≡ firstOf (not (eqb (firstOf (listTests entries x)) 0) gives firstOf (listTests entries x) ∷ m)
 list-test entries x m = first-then (listTests entries x) m refl ∙ go (eqb (firstOf (listTests entries x)) 0)
   where
     go : (b : Bool) → cond b (firstOf m) (firstOf (listTests entries x)) ≡ cond (not b) (firstOf (listTests entries x)) (firstOf m)

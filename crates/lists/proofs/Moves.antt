@@ -18,7 +18,8 @@ unfolding stepped
 step-words f s h = put-same (s .table) (gpaOf s) (taking f s .words) h
 
 -- where the step leaves its words
-pub step-kept : (f : Step) (s : Standing) → taking f s .words ≡ wordsAt (s .table) (gpaOf s) → wordsAt (stepped f s .table) (gpaOf s) ≡ wordsAt (s .table) (gpaOf s)
+pub step-kept : (f : Step) (s : Standing) → taking f s .words ≡ wordsAt (s .table) (gpaOf s) →
+    wordsAt (stepped f s .table) (gpaOf s) ≡ wordsAt (s .table) (gpaOf s)
 unfolding stepped
 step-kept f s e = rw e (put-back (s .table) (gpaOf s))
 

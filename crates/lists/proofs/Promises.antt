@@ -41,7 +41,8 @@ run-words f last (suc budget) s i n =
     (rest .0 ∙ getD-set-other (s .list) (s .at .next) i _ 0 other, rest .1 ∙ getD-set-other (s .buffer) (s .at .next) i _ 0 other))
     (λ q. (refl, refl))
 
-run-page : (f : Step) (last budget : ℕ) (s : Standing) (k : ℕ) → ((i : ℕ) → Takes last budget s i → entryOf (getD (s .list) i 0) .gpa ≡ k → ⊥) → wordsAt (listRun f last budget s .table) k ≡ wordsAt (s .table) k
+run-page : (f : Step) (last budget : ℕ) (s : Standing) (k : ℕ) → ((i : ℕ) → Takes last budget s i → entryOf (getD (s .list) i 0) .gpa ≡ k → ⊥) →
+    wordsAt (listRun f last budget s .table) k ≡ wordsAt (s .table) k
 unfolding listRun stepped
 run-page f last zero s k n = refl
 run-page f last (suc budget) s k n =
@@ -54,10 +55,12 @@ run-page f last (suc budget) s k n =
     ∙ step-other f s k (λ e. n (s .at .next) (omega arith, omega arith, h) (sym e)))
     (λ q. refl)
 
-run-lengths : (f : Step) (last budget : ℕ) (s : Standing) → (length (listRun f last budget s .table) ≡ length (s .table)) × (length (listRun f last budget s .list) ≡ length (s .list)) × (length (listRun f last budget s .buffer) ≡ length (s .buffer))
+run-lengths : (f : Step) (last budget : ℕ) (s : Standing) → (length (listRun f last budget s .table) ≡ length (s .table))
+    × (length (listRun f last budget s .list) ≡ length (s .list)) × (length (listRun f last budget s .buffer) ≡ length (s .buffer))
 unfolding stepped
 run-lengths f last budget s =
-    run-keeps (λ (x : Standing). (length (x .table) ≡ length (s .table)) × (length (x .list) ≡ length (s .list)) × (length (x .buffer) ≡ length (s .buffer))) f last
+    run-keeps (λ (x : Standing). (length (x .table) ≡ length (s .table)) × (length (x .list) ≡ length (s .list)) ×
+    (length (x .buffer) ≡ length (s .buffer))) f last
     (λ x q h. (step-length f x ∙ h .0, length-set (x .list) _ _ ∙ h .1, length-set (x .buffer) _ _ ∙ h .2)) budget s (refl, refl, refl)
 
 run-cut : (f : Step) (last budget more : ℕ) (s : Standing) → listRun f last (budget + more) s ≡ listRun f last more (listRun f last budget s)
@@ -65,7 +68,8 @@ unfolding listRun
 run-cut f last zero more s = let same : 0 + more ≡ more = omega arith in rw same
 run-cut f last (suc budget) more s = go (leb (s .at .next) last) refl (run-cut f last budget more (stepped f s))
   where
-    go : (b : Bool) → leb (s .at .next) last ≡ b → listRun f last (budget + more) (stepped f s) ≡ listRun f last more (listRun f last budget (stepped f s)) → listRun f last (suc budget + more) s ≡ listRun f last more (listRun f last (suc budget) s)
+    go : (b : Bool) → leb (s .at .next) last ≡ b → listRun f last (budget + more) (stepped f s) ≡ listRun f last more (listRun f last budget (stepped f s)) →
+        listRun f last (suc budget + more) s ≡ listRun f last more (listRun f last (suc budget) s)
     go true q ih = let one : suc budget + more ≡ suc (budget + more) = omega arith in rw (one, q) ih
     go false q ih = let one : suc budget + more ≡ suc (budget + more) = omega arith in rw (one, q) (sym (run-end f last more s (leb-false _ _ q)))
 

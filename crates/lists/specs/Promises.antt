@@ -19,12 +19,15 @@ pub record RunPromises : Type 0 where
   -- the words of every other entry stay: those below FIRST, past the budget and past LAST
   pub words : (f : Step) (last budget : ℕ) (s : Standing) (i : ℕ) → (Takes last budget s i → ⊥) → Same i s (listRun f last budget s)
   -- a page that none of them names stays
-  pub page : (f : Step) (last budget : ℕ) (s : Standing) (k : ℕ) → ((i : ℕ) → Takes last budget s i → entryOf (getD (s .list) i 0) .gpa ≡ k → ⊥) → wordsAt (listRun f last budget s .table) k ≡ wordsAt (s .table) k
+  pub page : (f : Step) (last budget : ℕ) (s : Standing) (k : ℕ) → ((i : ℕ) → Takes last budget s i → entryOf (getD (s .list) i 0) .gpa ≡ k → ⊥) →
+      wordsAt (listRun f last budget s .table) k ≡ wordsAt (s .table) k
   -- no length changes, so that a call without a buffer lends an empty one and gets it back
-  pub lengths : (f : Step) (last budget : ℕ) (s : Standing) → (length (listRun f last budget s .table) ≡ length (s .table)) × (length (listRun f last budget s .list) ≡ length (s .list)) × (length (listRun f last budget s .buffer) ≡ length (s .buffer))
+  pub lengths : (f : Step) (last budget : ℕ) (s : Standing) → (length (listRun f last budget s .table) ≡ length (s .table))
+      × (length (listRun f last budget s .list) ≡ length (s .list)) × (length (listRun f last budget s .buffer) ≡ length (s .buffer))
   -- a budget of 0 changes nothing
   pub none : (f : Step) (last : ℕ) (s : Standing) → listRun f last 0 s ≡ s
   -- a run that is cut in two is the one run
   pub cut : (f : Step) (last budget more : ℕ) (s : Standing) → listRun f last (budget + more) s ≡ listRun f last more (listRun f last budget s)
   -- when all is done more budget changes nothing
-  pub over : (f : Step) (last budget more : ℕ) (s : Standing) → last < listRun f last budget s .at .next → listRun f last (budget + more) s ≡ listRun f last budget s
+  pub over : (f : Step) (last budget more : ℕ) (s : Standing) → last < listRun f last budget s .at .next →
+      listRun f last (budget + more) s ≡ listRun f last budget s

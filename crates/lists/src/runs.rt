@@ -1,7 +1,7 @@
 // The entries of a list in turn.
 ghost use mathlib.Core.Path.{_≡_};
-ghost use Prim.Native.Nat.{_+_, _≤_};
-ghost use lib.ListN.{getD, set};
+ghost use Prim.Native.Nat.{_+_, _≤_, _<_};
+ghost use lib.ListN.{length, getD, set};
 ghost use Rattle.words.specs.Runs.{bit};
 ghost use Rattle.session.specs.Formed.{lastEntry};
 ghost use Rattle.lists.specs.Kinds.{takenBy};
@@ -44,22 +44,22 @@ fn count(at: Progress, got: Taken) -> Progress
     }
 }
 
-// A word of a list or a buffer; past the end, 0.
-fn word_at(words: &[u64], i: usize) -> u64
-    ensures { λ r. ⌜ r ≡ getD (now (words .entry)) i 0 ⌝ }
+// An entry's word in the buffer; 0 where the buffer has none.
+fn held_at(buffer: &[u64], i: usize) -> u64
+    ensures { λ r. ⌜ r ≡ getD (now (buffer .entry)) i 0 ⌝ }
 {
-    if i < words.len() {
-        return words[i];
+    if i < buffer.len() {
+        return buffer[i];
     }
     0
 }
 
-// Past the end nothing is written: a call without a buffer lends an empty one.
-fn put_word(words: &mut [u64], i: usize, x: u64)
-    ensures { λ _. ⌜ now (words .exit) ≡ set (now (words .entry)) i x ⌝ }
+// Where the buffer has no word nothing is written: a call without a buffer lends an empty one.
+fn hold(buffer: &mut [u64], i: usize, x: u64)
+    ensures { λ _. ⌜ now (buffer .exit) ≡ set (now (buffer .entry)) i x ⌝ }
 {
-    if i < words.len() {
-        words[i] = x;
+    if i < buffer.len() {
+        buffer[i] = x;
     }
 }
 
@@ -72,15 +72,15 @@ fn step(
     kind: Kind,
     g: Ground,
 ) -> Progress
-    requires { ⌜ (at .next ≤ lastEntry) × (at .errors ≤ at .next) × (at .filled ≤ at .next) ⌝ }
+    requires { ⌜ (at .next < length (now list)) × (at .next ≤ lastEntry) × (at .errors ≤ at .next) × (at .filled ≤ at .next) ⌝ }
     ensures { λ r. ⌜ r ≡ stepped (takenBy kind g) (standing at (now (table .entry)) (now (list .entry)) (now (buffer .entry))) .at ⌝ }
     ensures { λ _. ⌜ now (table .exit) ≡ stepped (takenBy kind g) (standing at (now (table .entry)) (now (list .entry)) (now (buffer .entry))) .table ⌝ }
     ensures { λ _. ⌜ now (list .exit) ≡ stepped (takenBy kind g) (standing at (now (table .entry)) (now (list .entry)) (now (buffer .entry))) .list ⌝ }
     ensures { λ _. ⌜ now (buffer .exit) ≡ stepped (takenBy kind g) (standing at (now (table .entry)) (now (list .entry)) (now (buffer .entry))) .buffer ⌝ }
 {
     let i = at.next as usize;
-    let word = word_at(&list[..], i);
-    let held = word_at(&buffer[..], i);
+    let word = list[i];
+    let held = held_at(&buffer[..], i);
     let e = entries::entry_of(word);
     let k = e.gpa as usize;
     let before = table::load(&table[..], k);
@@ -88,8 +88,8 @@ fn step(
     let after = got.words;
     let next = count(at, got);
     table::store(table, k, after);
-    put_word(list, i, got.word);
-    put_word(buffer, i, got.buffer);
+    list[i] = got.word;
+    hold(buffer, i, got.buffer);
     next
 }
 
@@ -104,7 +104,7 @@ pub fn run_entries(
     kind: Kind,
     g: Ground,
 ) -> Progress
-    requires { ⌜ (last ≤ lastEntry) × (from .next ≤ last + 1) × (from .errors ≤ from .next) × (from .filled ≤ from .next) ⌝ }
+    requires { ⌜ (last < length (now list)) × (last ≤ lastEntry) × (from .next ≤ last + 1) × (from .errors ≤ from .next) × (from .filled ≤ from .next) ⌝ }
     ensures { λ r. ⌜ r ≡ listRun (takenBy kind g) last budget (standing from (now (table .entry)) (now (list .entry)) (now (buffer .entry))) .at ⌝ }
     ensures { λ _. ⌜ now (table .exit) ≡ listRun (takenBy kind g) last budget (standing from (now (table .entry)) (now (list .entry)) (now (buffer .entry))) .table ⌝ }
     ensures { λ _. ⌜ now (list .exit) ≡ listRun (takenBy kind g) last budget (standing from (now (table .entry)) (now (list .entry)) (now (buffer .entry))) .list ⌝ }

@@ -44,7 +44,7 @@ run-entries-requires c κs =
     let at-begin = c .before .before .before in
     let ready = go-on at-begin in
     let from = begun at-begin in
-    (ready .short, rw from (below-next _ _ (ready .ordered)), rw from (ready .counts .errors), rw from (ready .counts .filled))
+    (ready .within, ready .short, rw from (below-next _ _ (ready .ordered)), rw from (ready .counts .errors), rw from (ready .counts .filled))
 
 finish-requires : tie.Need-finish-requires
 finish-requires c κs =

@@ -38,11 +38,23 @@ tests c =
     ∷ not (eqb (at-list c .list-code .result) codes.done) gives at-list c .list-code .result
     ∷ rest c
 
-past-gate : (c : tie.Else1) → exportCode (start c .args .s) (start c .args .len) (start c .args .entries) (start c .args .room) (start c .args .stream) (start c .args .resume) (start c .args .x) ≡ firstOf (tests c)
+past-gate : (c : tie.Else1) →
+    exportCode (start c .args .s) (start c .args .len) (start c .args .entries) (start c .args .room) (start c .args .stream) (start c .args .resume)
+    (start c .args .x) ≡ firstOf (tests c)
 unfolding exportCode
 past-gate c =
     let g = at-gate c in
-    rw (gate-first, ← g .gate .ensures, eq-eqb _ _ (c .if1 .left), ← g .before .before .before .is-usable .ensures, ← g .before .before .before .before .work-of .ensures, ← g .before .before .is-resumable .ensures, ← g .before .is-resting .ensures, list-test (start c .args .entries) (start c .args .x) (rest c), ← at-list c .list-code .ensures)
+    rw (
+      gate-first,
+      ← g .gate .ensures,
+      eq-eqb _ _ (c .if1 .left),
+      ← g .before .before .before .is-usable .ensures,
+      ← g .before .before .before .before .work-of .ensures,
+      ← g .before .before .is-resumable .ensures,
+      ← g .before .is-resting .ensures,
+      list-test (start c .args .entries) (start c .args .x) (rest c),
+      ← at-list c .list-code .ensures,
+    )
 
 work-of-requires : tie.Need-work-of-requires
 work-of-requires c κs = search needs
@@ -73,21 +85,48 @@ returns-3 : tie.Need-returns-3
 returns-3 c = let at-else = c .before .before in sym (past-gate at-else ∙ reached (tests at-else) 1 (c .before .if2 .left, c .if3 .taken))
 
 returns-4 : tie.Need-returns-4
-returns-4 c = let at-else = c .before .before .before in sym (past-gate at-else ∙ reached (tests at-else) 2 (c .before .before .if2 .left, (c .before .if3 .left, c .if4 .taken)))
+returns-4 c = let at-else = c .before .before .before in sym (past-gate at-else ∙ reached (tests at-else) 2
+    (c .before .before .if2 .left, (c .before .if3 .left, c .if4 .taken)))
 
 returns-5 : tie.Need-returns-5
-returns-5 c = let at-else = c .before .before .before .before in sym (past-gate at-else ∙ reached (tests at-else) 3 (c .before .before .before .if2 .left, (c .before .before .if3 .left, (c .before .if4 .left, c .if5 .taken))))
+returns-5 c = let at-else = c .before .before .before .before in sym (past-gate at-else ∙ reached (tests at-else) 3
+    (c .before .before .before .if2 .left, (c .before .before .if3 .left, (c .before .if4 .left, c .if5 .taken))))
 
 returns-6 : tie.Need-returns-6
-returns-6 c = let at-else = c .before .before .before .before .before in sym (past-gate at-else ∙ reached (tests at-else) 4 (c .before .before .before .before .if2 .left, (c .before .before .before .if3 .left, (c .before .before .if4 .left, (c .before .if5 .left, c .if6 .taken)))))
+returns-6 c = let at-else = c .before .before .before .before .before in sym
+    (past-gate at-else ∙ reached (tests at-else) 4 (
+      c .before .before .before .before .if2 .left,
+      (c .before .before .before .if3 .left, (c .before .before .if4 .left, (c .before .if5 .left, c .if6 .taken))),
+    ))
 
 returns-7 : tie.Need-returns-7
-returns-7 c = let at-else = c .before .before .before .before .before .before in sym (past-gate at-else ∙ reached (tests at-else) 5 (c .before .before .before .before .before .if2 .left, (c .before .before .before .before .if3 .left, (c .before .before .before .if4 .left, (c .before .before .if5 .left, (c .before .if6 .left, c .if7 .taken))))))
+returns-7 c = let at-else = c .before .before .before .before .before .before in sym
+    (past-gate at-else ∙ reached (tests at-else) 5 (
+      c .before .before .before .before .before .if2 .left,
+      (
+        c .before .before .before .before .if3 .left,
+        (
+          c .before .before .before .if4 .left,
+          (c .before .before .if5 .left, (c .before .if6 .left, c .if7 .taken)),
+        ),
+      ),
+    ))
 
 returns-8 : tie.Need-returns-8
-returns-8 c = let at-else = c .before .before .before .before .before .before in sym (past-gate at-else ∙ passed-code (tests at-else) (c .before .before .before .before .before .if2 .left, (c .before .before .before .before .if3 .left, (c .before .before .before .if4 .left, (c .before .before .if5 .left, (c .before .if6 .left, (c .if7 .left, tt)))))))
+returns-8 c = let at-else = c .before .before .before .before .before .before in sym
+    (past-gate at-else ∙ passed-code (tests at-else) (
+      c .before .before .before .before .before .if2 .left,
+      (
+        c .before .before .before .before .if3 .left,
+        (
+          c .before .before .before .if4 .left,
+          (c .before .before .if5 .left, (c .before .if6 .left, (c .if7 .left, tt))),
+        ),
+      ),
+    ))
 
 pub export-code-spec : {M : Type 1} → statement M
 export-code-spec =
     tie.close
-    (tie.spec work-of-requires is-usable-requires is-resumable-requires is-resting-requires gate-requires list-code-requires returns returns-2 returns-3 returns-4 returns-5 returns-6 returns-7 returns-8)
+    (tie.spec work-of-requires is-usable-requires is-resumable-requires is-resting-requires gate-requires list-code-requires
+    returns returns-2 returns-3 returns-4 returns-5 returns-6 returns-7 returns-8)

@@ -31,7 +31,12 @@ returns : tie.Need-returns
 unfolding finishedBy
 returns c =
     let at-is-over = c .before .before .before .before in
-    rw (sym (at-is-over .is-over .ensures) ∙ c .before .before .before .if1 .taken, ← c .before .before .mac-pages .ensures, c .before .with-work .ensures, at-is-over .before .info-back .ensures)
+    rw (
+      sym (at-is-over .is-over .ensures) ∙ c .before .before .before .if1 .taken,
+      ← c .before .before .mac-pages .ensures,
+      c .before .with-work .ensures,
+      at-is-over .before .info-back .ensures,
+    )
 
 with-work-requires-2 : tie.Need-with-work-requires-2
 with-work-requires-2 c κs = search needs
@@ -43,4 +48,5 @@ returns-2 c =
     rw (sym (at-is-over .is-over .ensures) ∙ c .before .if1 .left, c .with-work2 .ensures, at-is-over .before .info-back .ensures)
 
 pub finish-spec : {M : Type 1} → statement M
-finish-spec = tie.close (tie.spec info-back-requires is-over-requires mac-pages-requires with-work-requires add-t13 add-t14 returns with-work-requires-2 returns-2)
+finish-spec = tie.close
+    (tie.spec info-back-requires is-over-requires mac-pages-requires with-work-requires add-t13 add-t14 returns with-work-requires-2 returns-2)

@@ -21,11 +21,17 @@ returns-3 c = sym (reached (tests (c .before .before .before)) 2 (c .before .bef
 
 returns-4 : tie.Need-returns-4
 returns-4 c =
-    sym (reached (tests (c .before .before .before .before)) 3 (c .before .before .before .if1 .left, (c .before .before .if2 .left, (c .before .if3 .left, c .if4 .taken))))
+    sym (reached (tests (c .before .before .before .before)) 3 (
+      c .before .before .before .if1 .left,
+      (c .before .before .if2 .left, (c .before .if3 .left, c .if4 .taken)),
+    ))
 
 returns-5 : tie.Need-returns-5
 returns-5 c =
-    sym (passed-code (tests (c .before .before .before .before)) (c .before .before .before .if1 .left, (c .before .before .if2 .left, (c .before .if3 .left, (c .if4 .left, tt)))))
+    sym (passed-code (tests (c .before .before .before .before)) (
+      c .before .before .before .if1 .left,
+      (c .before .before .if2 .left, (c .before .if3 .left, (c .if4 .left, tt))),
+    ))
 
 pub list-code-spec : {M : Type 1} → statement M
 list-code-spec = tie.close (tie.spec returns returns-2 returns-3 returns-4 returns-5)

@@ -14,13 +14,21 @@ use Rattle.lists.proofs.runs.run_entries.Tie as tie
 abbrev Inv-loop : tie.InvT-loop
 Inv-loop table₀ list₀ buffer₀ last budget kind g at₀ spent₀ table list buffer at spent =
     (length table ≡ length table₀) × (length list ≡ length list₀) × (length buffer ≡ length buffer₀) × (at .next ≤ last + 1) × Counts at
-    × (listRun (takenBy kind g) last (budget - spent) (standing at table list buffer) ≡ listRun (takenBy kind g) last budget (standing at₀ table₀ list₀ buffer₀))
+    × (listRun (takenBy kind g) last (budget - spent) (standing at table list buffer) ≡ listRun (takenBy kind g) last budget
+    (standing at₀ table₀ list₀ buffer₀))
 
 abbrev μ-loop : tie.MeasureT-loop
 μ-loop table₀ list₀ buffer₀ last budget kind g at₀ spent₀ table list buffer at spent = budget - spent
 
 loop-holds : tie.Need-loop-holds Inv-loop μ-loop
-loop-holds c = (refl, refl, refl, c .before .before .before .pre .1, record { errors = c .before .before .before .pre .2; filled = c .before .before .before .pre .3 }, rw sub-zero)
+loop-holds c = (
+  refl,
+  refl,
+  refl,
+  c .before .before .before .pre .2,
+  record { errors = c .before .before .before .pre .3; filled = c .before .before .before .pre .4 },
+  rw sub-zero,
+)
 
 same-length : tie.Need-same-length Inv-loop μ-loop
 same-length c = c .before .before .before .loop .inv .0
@@ -38,8 +46,12 @@ step-requires : tie.Need-step-requires Inv-loop μ-loop
 step-requires c κs =
     let at-if1 = c .before .before .before .before in
     let at-loop = at-if1 .before .before in
-    let start = at-loop .before .before .before .before in
-    (omega (arith, at-if1 .if1 .taken, start .pre .0), at-loop .loop .inv .4 .errors, at-loop .loop .inv .4 .filled)
+    let start = at-loop .before .before .before .before in (
+      omega (arith, at-if1 .if1 .taken, start .pre .0, at-loop .loop .inv .1),
+      omega (arith, at-if1 .if1 .taken, start .pre .1),
+      at-loop .loop .inv .4 .errors,
+      at-loop .loop .inv .4 .filled,
+    )
 
 add-spent : tie.Need-add-spent Inv-loop μ-loop
 add-spent c = search needs

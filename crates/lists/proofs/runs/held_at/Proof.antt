@@ -3,8 +3,8 @@ use borrow.Author.Needs.{needs}
 use mathlib.Core.Path.{sym}
 use denote.Ref.{now}
 use lib.ListN.{List·getD-eq-default}
-use Rattle.lists.proofs.runs.word_at.Statement.{statement}
-use Rattle.lists.proofs.runs.word_at.Tie as tie
+use Rattle.lists.proofs.runs.held_at.Statement.{statement}
+use Rattle.lists.proofs.runs.held_at.Tie as tie
 
 mul-result : tie.Need-mul-result
 mul-result c = search needs
@@ -16,7 +16,7 @@ returns : tie.Need-returns
 returns c = search needs
 
 returns-2 : tie.Need-returns-2
-returns-2 c = sym (List·getD-eq-default (now (c .before .args .words)) 0 (c .if1 .left))
+returns-2 c = sym (List·getD-eq-default (now (c .before .args .buffer)) 0 (c .if1 .left))
 
-pub word-at-spec : {M : Type 1} → statement M
-word-at-spec = tie.close (tie.spec mul-result shared-slice-read-result returns returns-2)
+pub held-at-spec : {M : Type 1} → statement M
+held-at-spec = tie.close (tie.spec mul-result shared-slice-read-result returns returns-2)
