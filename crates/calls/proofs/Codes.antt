@@ -1,20 +1,17 @@
 -- Every code is one of a list of tests, or one that a scan or an export which ran gives, and all of these are document 01's.
 use mathlib.Core.Path.{_≡_, refl, ap, _∙_}
-use mathlib.Core.Bool.{Bool, true, not}
+use mathlib.Core.Bool.{true, not, or-true}
 use mathlib.Core.List.{List, [], _∷_}
 use Prim.Native.Nat.{ℕ, _-_}
 use lib.ListN.{length, replicate}
 use Rattle.words.specs.Codes as codes
 use Rattle.words.specs.Info.{infoOf}
 use Rattle.refusals.specs.Refusals.{Test, _gives_}
-use Rattle.refusals.proofs.Laws.{allCodes, first-all}
-use Rattle.page.specs.Page.{Page}
+use Rattle.refusals.proofs.Laws.{allCodes, first-all, all-then, refuses}
 use Rattle.page.specs.Moves.{moveTests}
-use Rattle.page.specs.declared.Clock.{Clock}
 use Rattle.page.specs.declared.moves.Move.{Move}
-use Rattle.page.specs.declared.moves.Move.the-variants as move
+use Rattle.page.proofs.MoveLaws.{move-refuses}
 use Rattle.page.specs.declared.sweeps.Sweep.{Sweep}
-use Rattle.page.specs.declared.sweeps.Sweep.the-variants as sweep
 use Rattle.table.specs.Table.{legal, pageCount, pageAt}
 use Rattle.session.specs.Session.{moving, phasesOf, newSession}
 use Rattle.session.specs.Formed.{within, fewestCreated, mostCreated, gateTests, gated}
@@ -27,9 +24,8 @@ use Rattle.memory.specs.Memory.{newCode, newOut, pageTests, onPage}
 use Rattle.memory.proofs.Laws.{page-code}
 use Rattle.migration.specs.Migration.{sweepWhen, sweepTests, sweepCode, onAll, aloneWhen, aloneTests, aloneCode, onSession}
 use Rattle.migration.specs.declared.Alone.{Alone}
-use Rattle.migration.specs.declared.Alone.the-variants as alone
 use Rattle.migration.specs.Token.{tokenTests, tokenCode, tokenOut}
-use Rattle.migration.proofs.Laws.{token-number}
+use Rattle.migration.proofs.Laws.{token-number, sweep-refuses, alone-refuses}
 use Rattle.scan.specs.Scan.{ScanOutcome, dscanTests, dscanCode, dscanOf, dcheckTests, dcheckCode, dcheckOf, checkedBy}
 use Rattle.scan.proofs.Outcomes.{OfScans, range-code, dscan-either, dchecked, dcheck-either}
 use Rattle.export.specs.Export.{exportTests, exportCode, ExportOutcome}
@@ -38,6 +34,10 @@ use Rattle.calls.specs.Calls.{effectOf}
 use Rattle.calls.specs.Promises.{named, AnswersNamed}
 use Rattle.calls.specs.declared.Call.{Call}
 use Rattle.calls.specs.declared.Call.the-variants.{New, OnPage, OnAll, OnSession, StartToken, Dscan, Dcheck, Export}
+
+-- a refusal's code is one of them
+refusals-named : (l : List Test) → allCodes refuses l ≡ true → allCodes named l ≡ true
+refusals-named l e = all-then refuses named (λ n h. rw h (or-true (within 0 3 n))) l e
 
 -- behind the gate, the codes of a call's own tests
 gated-named : (s : Session) (len : ℕ) (phases : List Phase) (l : List Test) → allCodes named l ≡ true → named (gated s len phases l) ≡ true
@@ -48,37 +48,19 @@ answered-named : (code : ℕ) (s : Session) (t : List ℕ) (s' : Session) (t' : 
 answered-named code s t s' t' h =
     answered-either (λ (o : Outcome). named (o .answer .code) ≡ true) code s t s' t' (λ e. h) (λ e. h)
 
-moves-named : (m : Move) (p : Page) (clock : Clock) → allCodes named (moveTests m p clock) ≡ true
-moves-named (move.Write mark) p clock = refl
-moves-named move.Add p clock = refl
-moves-named move.Accept p clock = refl
-moves-named move.Block p clock = refl
-moves-named move.Unblock p clock = refl
-moves-named move.Remove p clock = refl
-
 page-named : (m : Move) (s : Session) (t : List ℕ) (at : ℕ) → named (onPage m s t at .answer .code) ≡ true
 page-named m s t at =
-    rw (page-code m s t at) (first-all named (pageTests m s (length t) at (pageAt t at)) refl (moves-named m (pageAt t at) (s .clock)))
-
-sweeps-named : (k : Sweep) (s : Session) (stops : Bool) → allCodes named (sweepTests k s stops) ≡ true
-sweeps-named sweep.Track s stops = refl
-sweeps-named sweep.Start s stops = refl
-sweeps-named sweep.Pause s stops = refl
-sweeps-named sweep.Abort s stops = refl
+    rw (page-code m s t at) (first-all named (pageTests m s (length t) at (pageAt t at)) refl (refusals-named (moveTests m (pageAt t at) (s .clock)) (move-refuses m (pageAt t at) (s .clock))))
 
 all-named : (k : Sweep) (s : Session) (t : List ℕ) → named (onAll k s t .answer .code) ≡ true
 unfolding onAll sweepCode
 all-named k s t =
-    answered-named (sweepCode k s t) s t _ _ (gated-named s (length t) (phasesOf (sweepWhen k)) (sweepTests k s _) (sweeps-named k s _))
-
-alones-named : (k : Alone) (s : Session) → allCodes named (aloneTests k s) ≡ true
-alones-named alone.NewEpoch s = refl
-alones-named alone.Reset s = refl
+    answered-named (sweepCode k s t) s t _ _ (gated-named s (length t) (phasesOf (sweepWhen k)) (sweepTests k s _) (refusals-named (sweepTests k s _) (sweep-refuses k s _)))
 
 session-named : (k : Alone) (s : Session) (t : List ℕ) → named (onSession k s t .answer .code) ≡ true
 unfolding onSession aloneCode
 session-named k s t =
-    answered-named (aloneCode k s (length t)) s t _ t (gated-named s (length t) (phasesOf (aloneWhen k)) (aloneTests k s) (alones-named k s))
+    answered-named (aloneCode k s (length t)) s t _ t (gated-named s (length t) (phasesOf (aloneWhen k)) (aloneTests k s) (refusals-named (aloneTests k s) (alone-refuses k s)))
 
 scans-named : OfScans named
 scans-named = record { done = refl; interrupted = refl; full = refl; complete = refl; blocked = refl }

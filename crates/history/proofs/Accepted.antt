@@ -56,9 +56,20 @@ sweep-made Start s len stops o = start-formed (formed-means s len (o .formed))
 sweep-made Pause s len stops o = pause-formed (formed-means s len (o .formed)) (o .comes)
 sweep-made Abort s len stops o = abort-formed (formed-means s len (o .formed))
 
+-- and it has its eight streams
+pub sweep-streams : (k : Sweep) (s : Session) → length (s .streams) ≡ streamPlaces → length (sweepNext k s .streams) ≡ streamPlaces
+sweep-streams Track s n = n
+sweep-streams Start s n = refl
+sweep-streams Pause s n = n
+sweep-streams Abort s n = refl
+
 pub alone-made : (k : Alone) (s : Session) (len : ℕ) → Open s len (phasesOf (aloneWhen k)) (aloneTests k s) → Formed (aloneNext k s) len
 alone-made NewEpoch s len o = epoch-formed (formed-means s len (o .formed)) (o .comes) (leb-false lastEpoch (s .epoch) (o .passed .1 .0))
 alone-made Reset s len o = reset-formed (formed-means s len (o .formed))
+
+pub alone-streams : (k : Alone) (s : Session) → length (s .streams) ≡ streamPlaces → length (aloneNext k s .streams) ≡ streamPlaces
+alone-streams NewEpoch s n = n
+alone-streams Reset s n = n
 
 -- ---- the token
 

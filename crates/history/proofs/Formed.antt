@@ -14,7 +14,6 @@ use Rattle.page.specs.Page.{onWords}
 use Rattle.page.specs.Sweeps.{sweptBy}
 use Rattle.page.specs.declared.moves.Move.{Move}
 use Rattle.page.specs.declared.sweeps.Sweep.{Sweep}
-use Rattle.page.specs.declared.sweeps.Sweep.the-variants.{Track, Start, Pause, Abort}
 use Rattle.table.specs.Table.{pageCount, sweepOf}
 use Rattle.table.proofs.Laws.{put-length, sweep-length}
 use Rattle.session.specs.Session.{streamPlaces, newSession, withPhase, withWork, workOf}
@@ -30,7 +29,6 @@ use Rattle.memory.specs.Memory.{newCode, newOut, onPage}
 use Rattle.migration.specs.Migration.{sweepNext, sweepCode, onAll, aloneNext, aloneCode, onSession}
 use Rattle.migration.specs.Token.{tokenCode, tokenOut}
 use Rattle.migration.specs.declared.Alone.{Alone}
-use Rattle.migration.specs.declared.Alone.the-variants.{NewEpoch, Reset}
 use Rattle.migration.proofs.Laws.{all-either, alone-either}
 use Rattle.scan.specs.Scan.{rangeRun, checkedBy, ScanOutcome, dscanOf, dcheckOf}
 use Rattle.scan.proofs.RangeLaws.{range-length}
@@ -47,7 +45,7 @@ use Rattle.calls.specs.declared.Call.{Call}
 use Rattle.calls.specs.declared.Call.the-variants.{New, OnPage, OnAll, OnSession, StartToken, Dscan, Dcheck, Export}
 use Rattle.history.specs.History.{Given, World, accepted, after, run, newEffect, newWorld, History, atEnd}
 use Rattle.history.specs.Promises.{StaysFormed}
-use Rattle.history.proofs.Accepted.{new-made, sweep-made, alone-made, token-made, check-made, export-made}
+use Rattle.history.proofs.Accepted.{new-made, sweep-made, sweep-streams, alone-made, alone-streams, token-made, check-made, export-made}
 
 -- ---- every call
 
@@ -125,16 +123,6 @@ module _ (s : Session) (t : List ℕ) (n : length (s .streams) ≡ streamPlaces)
   unfolding onPage
   page-streams m at = answered-streams _ s _ n
 
-  sweep-streams : (k : Sweep) → length (sweepNext k s .streams) ≡ streamPlaces
-  sweep-streams Track = n
-  sweep-streams Start = refl
-  sweep-streams Pause = n
-  sweep-streams Abort = refl
-
-  alone-streams : (k : Alone) → length (aloneNext k s .streams) ≡ streamPlaces
-  alone-streams NewEpoch = n
-  alone-streams Reset = n
-
   token-streams : length (tokenOut s t .session .streams) ≡ streamPlaces
   unfolding tokenOut
   token-streams = either (λ (s' : Session). length (s' .streams) ≡ streamPlaces) (eqb (tokenCode s t) 0) (λ e. n) (λ e. n)
@@ -152,8 +140,8 @@ module _ (s : Session) (t : List ℕ) (n : length (s .streams) ≡ streamPlaces)
   unfolding newOut onAll onSession checkedBy
   call-streams l b (New created) = answered-streams (newCode (length t) created) (newSession (pageCount t) created) (replicate (length t) 0) refl
   call-streams l b (OnPage page m) = page-streams m page
-  call-streams l b (OnAll k) = answered-streams (sweepCode k s t) (sweepNext k s) (sweepOf (onWords (sweptBy k)) t) (sweep-streams k)
-  call-streams l b (OnSession k) = answered-streams (aloneCode k s (length t)) (aloneNext k s) t (alone-streams k)
+  call-streams l b (OnAll k) = answered-streams (sweepCode k s t) (sweepNext k s) (sweepOf (onWords (sweptBy k)) t) (sweep-streams k s n)
+  call-streams l b (OnSession k) = answered-streams (aloneCode k s (length t)) (aloneNext k s) t (alone-streams k s n)
   call-streams l b StartToken = token-streams
   call-streams l b (Dscan first count budget) =
       dscan-either s t l first count budget (λ (o : ScanOutcome). length (o .answer .session .streams) ≡ streamPlaces)

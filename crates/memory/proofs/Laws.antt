@@ -8,14 +8,12 @@ use lib.Dec.{eqb}
 use lib.ListN.{length}
 use borrow.Author.Tests.{leb-false, eqb-true, eqb-false}
 use Rattle.refusals.specs.Refusals.{firstOf}
-use Rattle.refusals.proofs.Laws.{Passed, coded, passed, not-false}
+use Rattle.refusals.proofs.Laws.{Passed, passed, refuses-coded, not-false}
 use Rattle.page.specs.Page.{Page, onWords, unlessStrange}
 use Rattle.page.specs.Moves.{moveTests, movedBy}
-use Rattle.page.specs.declared.Clock.{Clock}
 use Rattle.page.specs.declared.moves.Move.{Move}
-use Rattle.page.specs.declared.moves.Move.the-variants.{Write, Add, Accept, Block, Unblock, Remove}
 use Rattle.page.proofs.Laws.{read-held}
-use Rattle.page.proofs.MoveLaws.{done-known, moved-held}
+use Rattle.page.proofs.MoveLaws.{move-refuses, done-known, moved-held}
 use Rattle.table.specs.Table.{wordsAt, pageAt, putAt}
 use Rattle.table.proofs.Laws.{put-other, page-put}
 use Rattle.session.specs.Session.{among, guest}
@@ -38,15 +36,6 @@ pub page-turn : (m : Move) (s : Session) (t : List ℕ) (at : ℕ) → onPage m 
 unfolding onPage pageTurn
 page-turn m s t at = refl
 
--- its tests have codes of their own
-pub move-coded : (m : Move) (p : Page) (clock : Clock) → coded (moveTests m p clock) ≡ true
-move-coded (Write mark) p clock = refl
-move-coded Add p clock = refl
-move-coded Accept p clock = refl
-move-coded Block p clock = refl
-move-coded Unblock p clock = refl
-move-coded Remove p clock = refl
-
 -- it has passed them
 pub record Done (m : Move) (s : Session) (len at : ℕ) (p : Page) : Type 0 where
   pub formed : formed s len ≡ true
@@ -56,7 +45,7 @@ pub record Done (m : Move) (s : Session) (len at : ℕ) (p : Page) : Type 0 wher
 
 pub page-passed : (m : Move) (s : Session) (len at : ℕ) (p : Page) → firstOf (pageTests m s len at p) ≡ 0 → Done m s len at p
 page-passed m s len at p e =
-    let d = passed (pageTests m s len at p) (move-coded m p (s .clock)) e in
+    let d = passed (pageTests m s len at p) (refuses-coded (moveTests m p (s .clock)) (move-refuses m p (s .clock))) e in
     let f = not-false (formed s len) (d .0) in
     let ours : len / 2 ≡ s .fixed .pages = formed-means s len f .ours in
     let below : at < s .fixed .pages = leb-false (s .fixed .pages) at (d .1 .1 .1 .0) in

@@ -1,5 +1,5 @@
 -- New, and the calls on one page.
-use mathlib.Core.Bool.{Bool, true, false, not, _&&_}
+use mathlib.Core.Bool.{not, _&&_}
 use mathlib.Core.List.{List, [], _∷_}
 use Prim.Native.Nat.{ℕ, _/_}
 use lib.Dec.{leb}
@@ -7,10 +7,9 @@ use lib.ListN.{length, replicate}
 use Rattle.words.specs.Codes as codes
 use Rattle.refusals.specs.Refusals.{Test, _gives_, firstOf}
 use Rattle.page.specs.Page.{Page, pageOf, onWords}
-use Rattle.page.specs.Moves.{moveTests, movedBy}
+use Rattle.page.specs.Moves.{isBlock, moveTests, movedBy}
 use Rattle.page.specs.declared.PageWords.{PageWords}
 use Rattle.page.specs.declared.moves.Move.{Move}
-use Rattle.page.specs.declared.moves.Move.the-variants.{Write, Add, Accept, Block, Unblock, Remove}
 use Rattle.table.specs.Table.{legal, pageCount, wordsAt, pageAt, putAt}
 use Rattle.session.specs.Session.{among, guest, newSession}
 use Rattle.session.specs.Formed.{formed, within, fewestCreated, mostCreated}
@@ -37,14 +36,6 @@ newOut s t created =
     answered (newCode (length t) created) s t (newSession (pageCount t) created) (replicate (length t) 0)
 
 -- ---- calls on one page
-
-abbrev pub isBlock : Move → Bool
-isBlock (Write mark) = false
-isBlock Add = false
-isBlock Accept = false
-isBlock Block = true
-isBlock Unblock = false
-isBlock Remove = false
 
 -- 40; a block in Blackout is 49; 41; a page number beyond the table is 42; then what the call asks of its page
 abbrev pub pageTests : Move → Session → ℕ → ℕ → Page → List Test

@@ -2,7 +2,7 @@
 ghost use mathlib.Core.Path.{_≡_};
 ghost use Rattle.refusals.specs.Refusals.{firstOf};
 ghost use Rattle.page.specs.Page.{pageOf};
-ghost use Rattle.memory.specs.Memory.{newCode, newAnswer, newOut, isBlock, pageTests, pageTurn, onPage};
+ghost use Rattle.memory.specs.Memory.{newCode, newAnswer, newOut, pageTests, pageTurn, onPage};
 use page::PageWords;
 use page::moves;
 use page::moves::Move;
@@ -49,25 +49,12 @@ pub fn new(s: Session, table: &mut [u64], created: u64) -> Answer
 
 // ---- calls on one page
 
-fn is_block(m: Move) -> bool
-    ensures { λ r. ⌜ r ≡ isBlock m ⌝ }
-{
-    match m {
-        Move::Write { mark: _ } => false,
-        Move::Add => false,
-        Move::Accept => false,
-        Move::Block => true,
-        Move::Unblock => false,
-        Move::Remove => false,
-    }
-}
-
 fn page_code(m: Move, s: Session, len: usize, at: usize, w: PageWords) -> u64
     ensures { λ r. ⌜ r ≡ firstOf (pageTests m s len at (pageOf w)) ⌝ }
 {
     let p = s.phase;
     let comes = session::comes_in(p);
-    let block = is_block(m);
+    let block = moves::is_block(m);
     let formed = session::is_formed(s, len);
     let beyond = s.fixed.pages <= at;
     let barred = block & comes.blackout;

@@ -8,7 +8,7 @@ use lib.ListN.{length}
 use borrow.Author.Tests.{eqb-true, ltb-false}
 use Rattle.words.specs.Codes as codes
 use Rattle.refusals.specs.Refusals.{Test, _gives_, firstOf}
-use Rattle.refusals.proofs.Laws.{coded, not-true, first-all}
+use Rattle.refusals.proofs.Laws.{not-true, allCodes, first-all, refuses, refuses-coded}
 use Rattle.page.specs.Page.{onWords, gives53, gives54}
 use Rattle.page.specs.Sweeps.{sweptBy}
 use Rattle.page.specs.declared.sweeps.Sweep.{Sweep}
@@ -29,17 +29,17 @@ use Rattle.migration.specs.declared.token.Token.the-variants.{Granted, R
 
 -- ---- the calls on every page
 
--- their tests have codes of their own
-pub sweeps-coded : (k : Sweep) (s : Session) (stops : Bool) → coded (sweepTests k s stops) ≡ true
-sweeps-coded Track s stops = refl
-sweeps-coded Start s stops = refl
-sweeps-coded Pause s stops = refl
-sweeps-coded Abort s stops = refl
+-- their tests have codes of refusals
+pub sweep-refuses : (k : Sweep) (s : Session) (stops : Bool) → allCodes refuses (sweepTests k s stops) ≡ true
+sweep-refuses Track s stops = refl
+sweep-refuses Start s stops = refl
+sweep-refuses Pause s stops = refl
+sweep-refuses Abort s stops = refl
 
 -- one that is done has passed its gate and its tests
 pub sweep-open : (k : Sweep) (s : Session) (t : List ℕ) → sweepCode k s t ≡ 0 → Open s (length t) (phasesOf (sweepWhen k)) (sweepTests k s (stopped (stopsAt k) t))
 unfolding sweepCode
-sweep-open k s t e = gate-open s (length t) (phasesOf (sweepWhen k)) (sweepTests k s _) (sweeps-coded k s _) e
+sweep-open k s t e = gate-open s (length t) (phasesOf (sweepWhen k)) (sweepTests k s _) (refuses-coded (sweepTests k s _) (sweep-refuses k s _)) e
 
 -- what holds of the outcome of a call that is done and of the one that gives back what came
 pub all-either : (P : Outcome → Type 0) (k : Sweep) (s : Session) (t : List ℕ) → (Open s (length t) (phasesOf (sweepWhen k)) (sweepTests k s (stopped (stopsAt k) t)) → P (outcome 0 (sweepNext k s) (sweepOf (onWords (sweptBy k)) t))) → (eqb (sweepCode k s t) 0 ≡ false → P (outcome (sweepCode k s t) s t)) → P (onAll k s t)
@@ -58,13 +58,13 @@ sweep-answer k s t gate stops e f =
 
 -- ---- the calls on the session alone
 
-pub alones-coded : (k : Alone) (s : Session) → coded (aloneTests k s) ≡ true
-alones-coded NewEpoch s = refl
-alones-coded Reset s = refl
+pub alone-refuses : (k : Alone) (s : Session) → allCodes refuses (aloneTests k s) ≡ true
+alone-refuses NewEpoch s = refl
+alone-refuses Reset s = refl
 
 pub alone-open : (k : Alone) (s : Session) (len : ℕ) → aloneCode k s len ≡ 0 → Open s len (phasesOf (aloneWhen k)) (aloneTests k s)
 unfolding aloneCode
-alone-open k s len e = gate-open s len (phasesOf (aloneWhen k)) (aloneTests k s) (alones-coded k s) e
+alone-open k s len e = gate-open s len (phasesOf (aloneWhen k)) (aloneTests k s) (refuses-coded (aloneTests k s) (alone-refuses k s)) e
 
 pub alone-either : (P : Outcome → Type 0) (k : Alone) (s : Session) (t : List ℕ) → (Open s (length t) (phasesOf (aloneWhen k)) (aloneTests k s) → P (outcome 0 (aloneNext k s) t)) → (eqb (aloneCode k s (length t)) 0 ≡ false → P (outcome (aloneCode k s (length t)) s t)) → P (onSession k s t)
 unfolding onSession

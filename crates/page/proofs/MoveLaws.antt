@@ -4,7 +4,7 @@ use mathlib.Core.Bool.{Bool, true, false, cond, not, _&&_, _||_, true≢false}
 use mathlib.Core.List.{List, [], _∷_}
 use Prim.Native.Nat.{ℕ, _<_, _^_}
 use lib.Dec.{eqb, lit<}
-use Rattle.refusals.proofs.Laws.{Passed}
+use Rattle.refusals.proofs.Laws.{Passed, allCodes, refuses}
 use Rattle.states.specs.States.{State, Strange, Change, stateOf, isStrange, isIn, hasMove, goesBy, numberBy}
 use Rattle.states.specs.Lists.{adds, accepts, blocks, unblocks, removes, aborts}
 use Rattle.states.proofs.Masks.{has-move}
@@ -32,6 +32,17 @@ has Remove n h = has-move removes n h tt
 -- a call has a move for a page where it takes its number to another
 pub able : (m : Move) (w : PageWords) (n to : ℕ) → n < 2 ^ 8 → stateOf n ≡ pageOf w .state → to ≡ numberBy (changesOf m) n → not (eqb to n) ≡ hasMove (changesOf m) (pageOf w .state)
 able m w n to h e q = ap (λ (x : ℕ). not (eqb x n)) q ∙ has m n h ∙ ap (hasMove (changesOf m)) e
+
+-- ---- what a call asks of its page
+
+-- its tests have codes of refusals
+pub move-refuses : (m : Move) (p : Page) (clock : Clock) → allCodes refuses (moveTests m p clock) ≡ true
+move-refuses (Write mark) p clock = refl
+move-refuses Add p clock = refl
+move-refuses Accept p clock = refl
+move-refuses Block p clock = refl
+move-refuses Unblock p clock = refl
+move-refuses Remove p clock = refl
 
 -- ---- a call that is done
 

@@ -20,6 +20,15 @@ changesOf Block = blocks
 changesOf Unblock = unblocks
 changesOf Remove = removes
 
+-- the one call that has a code of its own in Blackout, 49
+abbrev pub isBlock : Move → Bool
+isBlock (Write mark) = false
+isBlock Add = false
+isBlock Accept = false
+isBlock Block = true
+isBlock Unblock = false
+isBlock Remove = false
+
 -- in 4, 24, 25; in 1 and 26 only if Cached is set
 unfoldable pub writable : Page → Bool
 writable p = isIn (p .state) writableStates || (isIn (p .state) landingStates && p .cached)

@@ -7,7 +7,7 @@ ghost use Rattle.words.specs.Codes as codes;
 ghost use Rattle.refusals.specs.Refusals.{_gives_, firstOf};
 ghost use Rattle.states.specs.States.{State, numberOf, numberBy, goesBy};
 ghost use Rattle.page.specs.Page.{pageOf, wordsFor, strange, onWords};
-ghost use Rattle.page.specs.Moves.{changesOf, writable, moveTests, stored, emptied, restamped, movedBy};
+ghost use Rattle.page.specs.Moves.{changesOf, isBlock, writable, moveTests, stored, emptied, restamped, movedBy};
 use crate::Clock;
 use crate::PageWords;
 use crate::queries;
@@ -35,6 +35,20 @@ fn goal(m: Move, n: u8) -> u8
         Move::Block => states::block_of(n),
         Move::Unblock => states::unblock_of(n),
         Move::Remove => states::remove_of(n),
+    }
+}
+
+// In Blackout a block has a code of its own.
+pub fn is_block(m: Move) -> bool
+    ensures { λ r. ⌜ r ≡ isBlock m ⌝ }
+{
+    match m {
+        Move::Write { mark: _ } => false,
+        Move::Add => false,
+        Move::Accept => false,
+        Move::Block => true,
+        Move::Unblock => false,
+        Move::Remove => false,
     }
 }
 

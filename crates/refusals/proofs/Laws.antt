@@ -2,10 +2,10 @@
 use mathlib.Core.Path.{_≡_, refl, sym}
 use mathlib.Core.Bool.{Bool, true, false, cond, not, _&&_, _||_, false≢true}
 use mathlib.Core.List.{List, [], _∷_}
-use Prim.Native.Nat.{ℕ, zero, suc, _<_}
+use Prim.Native.Nat.{ℕ, zero, suc, _≤_, _<_}
 use native.Mathlib.Omega.{arith}
-use lib.Dec.{ltb, eqb}
-use borrow.Author.Tests.{ltb-true, eqb-false}
+use lib.Dec.{leb, ltb, eqb}
+use borrow.Author.Tests.{leb-true, ltb-true, lt-ltb, eqb-false}
 use Rattle.refusals.specs.Refusals.{Test, firstOf}
 
 -- what holds either way holds of what a test picks
@@ -85,6 +85,23 @@ pub first-all : (f : ℕ → Bool) (l : List Test) → f 0 ≡ true → allCodes
 first-all f [] h e = h
 first-all f (t ∷ l) h e =
     either (λ (n : ℕ). f n ≡ true) (t .holds) (λ q. and-left (f (t .code)) (allCodes f l) e) (λ q. first-all f l h (and-right (f (t .code)) (allCodes f l) e))
+
+-- what follows from that of every code
+pub all-then : (f g : ℕ → Bool) → ((n : ℕ) → f n ≡ true → g n ≡ true) → (l : List Test) → allCodes f l ≡ true → allCodes g l ≡ true
+all-then f g h [] e = refl
+all-then f g h (t ∷ l) e =
+    rw (h (t .code) (and-left (f (t .code)) (allCodes f l) e)) (all-then f g h l (and-right (f (t .code)) (allCodes f l) e))
+
+-- document 01's refusals have the codes from 40 to 56
+abbrev pub refuses : ℕ → Bool
+refuses n = leb 40 n && leb n 56
+
+-- so they are codes of their own
+pub refuses-coded : (l : List Test) → allCodes refuses l ≡ true → coded l ≡ true
+refuses-coded [] e = refl
+refuses-coded (t ∷ l) e =
+    let some : 40 ≤ t .code = leb-true 40 (t .code) (and-left (leb 40 (t .code)) (leb (t .code) 56) (and-left (refuses (t .code)) (allCodes refuses l) e)) in
+    rw (lt-ltb 0 (t .code) (omega arith)) (refuses-coded l (and-right (refuses (t .code)) (allCodes refuses l) e))
 
 -- ---- a code that is not 0
 

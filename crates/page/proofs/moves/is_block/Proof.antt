@@ -1,7 +1,7 @@
 -- Each arm is its clause of the definition.
 use borrow.Author.Needs.{needs}
-use Rattle.memory.proofs.is_block.Statement.{statement}
-use Rattle.memory.proofs.is_block.Tie as tie
+use Rattle.page.proofs.moves.is_block.Statement.{statement}
+use Rattle.page.proofs.moves.is_block.Tie as tie
 
 enum-told : tie.Need-enum-told
 enum-told c = search needs
