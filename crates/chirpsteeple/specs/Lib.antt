@@ -1,3 +1,1 @@
-pub mod Host
-pub mod Inside
-pub mod Promises
+pub mod Functions

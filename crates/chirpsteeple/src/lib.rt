@@ -1,21 +1,19 @@
 // The seventeen functions that C, Rust and Python call, on numbers and byte slices. No caller is asked to have checked anything.
 ghost use mathlib.Core.Path.{_≡_};
-ghost use Rattle.chirpsteeple.specs.Host.{Left, newLeft, writeLeft, addLeft, acceptLeft, blockLeft, unblockLeft, removeLeft};
-ghost use Rattle.chirpsteeple.specs.Host.{trackLeft, startLeft, pauseLeft, abortLeft, newEpochLeft, resetLeft};
-ghost use Rattle.chirpsteeple.specs.Host.{tokenLeft, dscanLeft, dcheckLeft, exportLeft, tokenToC, scanToC, exportToC};
-use crate::plays::Numbers;
+ghost use Rattle.host.specs.Host.{Left};
+ghost use Rattle.chirpsteeple.specs.Functions.{newLeft, writeLeft, addLeft, acceptLeft, blockLeft, unblockLeft, removeLeft};
+ghost use Rattle.chirpsteeple.specs.Functions.{trackLeft, startLeft, pauseLeft, abortLeft, newEpochLeft, resetLeft};
+ghost use Rattle.chirpsteeple.specs.Functions.{tokenLeft, dscanLeft, dcheckLeft, exportLeft, tokenToC, scanToC, exportToC};
 use calls::Call;
+use host::lists;
+use host::pages;
+use host::plays::Numbers;
+use host::sweeps;
+use host::tables;
 use migration::Alone;
 use page::moves::Move;
 use page::sweeps::Sweep;
 use session::When;
-
-mod lists;
-mod pages;
-mod plays;
-mod reads;
-mod sweeps;
-mod tables;
 
 // What the start token answers; the page is that in the way of 53 and 54.
 #[repr(C)]

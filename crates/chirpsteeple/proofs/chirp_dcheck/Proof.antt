@@ -1,7 +1,7 @@
 -- What is left is what `with_list` leaves; the answer is its numbers, as a scan has them.
 use borrow.Author.Needs.{needs}
-use Rattle.chirpsteeple.proofs.ListLaws.{dcheck-comes}
-use Rattle.chirpsteeple.specs.Host.{scanToC}
+use Rattle.host.proofs.ListLaws.{dcheck-comes}
+use Rattle.chirpsteeple.specs.Functions.{scanToC}
 use mathlib.Core.Path.{ap, _∙_}
 use Rattle.chirpsteeple.proofs.chirp_dcheck.Statement.{statement}
 use Rattle.chirpsteeple.proofs.chirp_dcheck.Tie as tie

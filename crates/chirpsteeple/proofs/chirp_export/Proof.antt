@@ -1,7 +1,7 @@
 -- What is left is what `with_lists` leaves; the answer is its numbers, as an export has them.
 use borrow.Author.Needs.{needs}
-use Rattle.chirpsteeple.proofs.ListLaws.{export-comes}
-use Rattle.chirpsteeple.specs.Host.{exportToC}
+use Rattle.host.proofs.ListLaws.{export-comes}
+use Rattle.chirpsteeple.specs.Functions.{exportToC}
 use mathlib.Core.Path.{ap}
 use Rattle.chirpsteeple.proofs.chirp_export.Statement.{statement}
 use Rattle.chirpsteeple.proofs.chirp_export.Tie as tie

@@ -1,7 +1,7 @@
 -- Two of the numbers that the start token answers.
 use borrow.Author.Needs.{needs}
 use mathlib.Core.Path.{ap}
-use Rattle.chirpsteeple.specs.Host.{tokenToC}
+use Rattle.chirpsteeple.specs.Functions.{tokenToC}
 use Rattle.chirpsteeple.proofs.chirp_start_token.Statement.{statement}
 use Rattle.chirpsteeple.proofs.chirp_start_token.Tie as tie
 
