@@ -15,6 +15,7 @@ use Rattle.session.specs.Formed.{lastEpoch, fewestCreated, mostCreated, within,
 use Rattle.session.specs.declared.Phase.{Phase}
 use Rattle.session.specs.declared.Phase.the-variants.{Idle, Live, Blackout, Done}
 use Rattle.session.specs.declared.Check.{Check}
+use Rattle.session.specs.declared.Fixed.{Fixed}
 use Rattle.session.specs.declared.Session.{Session}
 use Rattle.session.specs.declared.streams.Stream.{Stream}
 use Rattle.session.specs.declared.streams.Work.{Work}
@@ -41,8 +42,10 @@ module _ {s : Session} {len : ℕ} (f : Formed s len) where
   placed = record { place = f .place; complete = f .complete; apart = f .apart }
 
   -- the guest is the same
-  again : (s' : Session) → s' .fixed .pages ≡ s .fixed .pages → s' .fixed .created ≡ s .fixed .created → Timed (s' .phase) (s' .clock .tlb) (s' .epoch) → Placed (s' .check) (s .fixed .pages) → Streaming s' → Formed s' len
-  again s' pages created t c streams =
+  again : (s' : Session) → s' .fixed ≡ s .fixed → Timed (s' .phase) (s' .clock .tlb) (s' .epoch) → Placed (s' .check) (s .fixed .pages) → Streaming s' → Formed s' len
+  again s' same t c streams =
+      let pages : s' .fixed .pages ≡ s .fixed .pages = ap (λ (x : Fixed). x .pages) same in
+      let created : s' .fixed .created ≡ s .fixed .created = ap (λ (x : Fixed). x .created) same in
       record {
         even = f .even;
         some = f .some;
@@ -83,19 +86,19 @@ rest-formed moves created i h = rw (getD-replicate streamPlaces i resting restin
 
 pub track-formed : {s : Session} {len : ℕ} → Formed s len → s .clock .tlb < lastEpoch → Formed (withClock s (ticked (s .clock))) len
 track-formed {s} f h =
-    again f (withClock s (ticked (s .clock))) refl refl
+    again f (withClock s (ticked (s .clock))) refl
     (record { tlb = record { low = omega arith; high = omega arith }; idle = f .idle; begun = f .begun })
     (placed f) (f .streams)
 
 pub start-formed : {s : Session} {len : ℕ} → Formed s len → Formed (begun s Live 1) len
 start-formed {s} f =
-    again f (begun s Live 1) refl refl
+    again f (begun s Live 1) refl
     (record { tlb = f .tlb; idle = λ q. absurd (not-idle moving Live refl refl q); begun = λ n. record { low = omega arith; high = omega arith } })
     (unchecked-placed (s .fixed .pages)) (rest-formed true (s .fixed .created))
 
 pub abort-formed : {s : Session} {len : ℕ} → Formed s len → Formed (begun s Idle 0) len
 abort-formed {s} f =
-    again f (begun s Idle 0) refl refl
+    again f (begun s Idle 0) refl
     (record { tlb = f .tlb; idle = λ q. refl; begun = λ n. absurd (n refl) })
     (unchecked-placed (s .fixed .pages)) (rest-formed false (s .fixed .created))
 
@@ -103,19 +106,19 @@ abort-formed {s} f =
 pub pause-formed : {s : Session} {len : ℕ} → Formed s len → among (Live ∷ []) (s .phase) ≡ true → Formed (withPhase s Blackout) len
 pause-formed {s} f e =
     let live : s .phase ≡ Live = live-is (s .phase) e in
-    again f (withPhase s Blackout) refl refl
+    again f (withPhase s Blackout) refl
     (record { tlb = f .tlb; idle = λ q. absurd (not-idle moving Blackout refl refl q); begun = λ n. f .begun (not-idle (Live ∷ []) (s .phase) refl e) })
     (placed f)
     (λ i h. subst (λ (p : Phase). WorkFormed (among moving p) (s .fixed .created) i (workAt s i)) live (f .streams i h))
 
 pub epoch-formed : {s : Session} {len : ℕ} → Formed s len → among moving (s .phase) ≡ true → s .epoch < lastEpoch → Formed (withEpoch s (s .epoch + 1)) len
 epoch-formed {s} f e h =
-    again f (withEpoch s (s .epoch + 1)) refl refl
+    again f (withEpoch s (s .epoch + 1)) refl
     (record { tlb = f .tlb; idle = λ q. absurd (not-idle moving (s .phase) refl e q); begun = λ n. record { low = omega arith; high = omega arith } })
     (placed f) (f .streams)
 
 pub check-formed : {s : Session} {len : ℕ} → Formed s len → (c : Check) → Placed c (s .fixed .pages) → Formed (withCheck s c) len
-check-formed {s} f c p = again f (withCheck s c) refl refl (timed f) p (f .streams)
+check-formed {s} f c p = again f (withCheck s c) refl (timed f) p (f .streams)
 
 pub reset-formed : {s : Session} {len : ℕ} → Formed s len → Formed (withCheck s unchecked) len
 reset-formed {s} f = check-formed f unchecked (unchecked-placed (s .fixed .pages))
@@ -127,7 +130,7 @@ resting-formed created i (Interrupted next last errors filled) e = absurd (false
 
 pub token-formed : {s : Session} {len : ℕ} → Formed s len → among (Blackout ∷ []) (s .phase) ≡ true → busy s ≡ false → Formed (withPhase s Done) len
 token-formed {s} f e rest =
-    again f (withPhase s Done) refl refl
+    again f (withPhase s Done) refl
     (record { tlb = f .tlb; idle = λ q. absurd (not-idle (Done ∷ []) Done refl refl q); begun = λ n. f .begun (not-idle (Blackout ∷ []) (s .phase) refl e) })
     (placed f)
     (λ i h. resting-formed (s .fixed .created) i (workAt s i) (busy-means s rest i h))
@@ -146,7 +149,7 @@ pub run-formed : {s : Session} {len : ℕ} → Formed s len → (i : ℕ) → i 
 unfolding withWork
 run-formed {s} f i h r e =
     rw (lt-ltb i streamPlaces h)
-    (again f (withStreams s (set (s .streams) i (record { work = r }))) refl refl
+    (again f (withStreams s (set (s .streams) i (record { work = r }))) refl
     (timed f) (placed f)
     (λ k b.
     set-stream (λ (z : Stream). WorkFormed (among moving (s .phase)) (s .fixed .created) k (z .work)) (s .streams) i k (record { work = r })
