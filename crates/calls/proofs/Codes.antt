@@ -50,17 +50,21 @@ answered-named code s t s' t' h =
 
 page-named : (m : Move) (s : Session) (t : List ℕ) (at : ℕ) → named (onPage m s t at .answer .code) ≡ true
 page-named m s t at =
-    rw (page-code m s t at) (first-all named (pageTests m s (length t) at (pageAt t at)) refl (refusals-named (moveTests m (pageAt t at) (s .clock)) (move-refuses m (pageAt t at) (s .clock))))
+    let p = pageAt t at in
+    rw (page-code m s t at)
+    (first-all named (pageTests m s (length t) at p) refl (refusals-named (moveTests m p (s .clock)) (move-refuses m p (s .clock))))
 
 all-named : (k : Sweep) (s : Session) (t : List ℕ) → named (onAll k s t .answer .code) ≡ true
 unfolding onAll sweepCode
 all-named k s t =
-    answered-named (sweepCode k s t) s t _ _ (gated-named s (length t) (phasesOf (sweepWhen k)) (sweepTests k s _) (refusals-named (sweepTests k s _) (sweep-refuses k s _)))
+    answered-named (sweepCode k s t) s t _ _
+    (gated-named s (length t) (phasesOf (sweepWhen k)) (sweepTests k s _) (refusals-named (sweepTests k s _) (sweep-refuses k s _)))
 
 session-named : (k : Alone) (s : Session) (t : List ℕ) → named (onSession k s t .answer .code) ≡ true
 unfolding onSession aloneCode
 session-named k s t =
-    answered-named (aloneCode k s (length t)) s t _ t (gated-named s (length t) (phasesOf (aloneWhen k)) (aloneTests k s) (refusals-named (aloneTests k s) (alone-refuses k s)))
+    answered-named (aloneCode k s (length t)) s t _ t
+    (gated-named s (length t) (phasesOf (aloneWhen k)) (aloneTests k s) (refusals-named (aloneTests k s) (alone-refuses k s)))
 
 scans-named : OfScans named
 scans-named = record { done = refl; interrupted = refl; full = refl; complete = refl; blocked = refl }

@@ -14,18 +14,19 @@ use Rattle.refusals.proofs.Laws.{either, passed, first-all, not-false}
 use Rattle.page.specs.declared.sweeps.Sweep.{Sweep}
 use Rattle.page.specs.declared.sweeps.Sweep.the-variants.{Track, Start, Pause, Abort}
 use Rattle.table.specs.Table.{legal, wordsAt}
-use Rattle.session.specs.Session.{phasesOf, moving, streamPlaces, newSession, withPhase, workOf}
+use Rattle.session.specs.Session.{moving, streamPlaces, newSession, withPhase, workOf}
 use Rattle.session.specs.Formed.{lastEpoch, fewestCreated, mostCreated, within, usable}
 use Rattle.session.specs.declared.Phase.the-variants.{Blackout, Done}
 use Rattle.session.specs.declared.Session.{Session}
 use Rattle.session.specs.declared.streams.Work.the-variants.{AtRest, Interrupted}
-use Rattle.session.proofs.Laws.{Open, gate-open}
+use Rattle.session.proofs.Laws.{gate-open}
 use Rattle.session.proofs.FormedLaws.{Formed, formed-means}
 use Rattle.memory.specs.Memory.{newCode}
-use Rattle.migration.specs.Migration.{sweepWhen, sweepTests, sweepNext, aloneWhen, aloneTests, aloneNext}
+use Rattle.migration.specs.Migration.{sweepNext, aloneNext}
 use Rattle.migration.specs.Token.{tokenTests, tokenCode}
 use Rattle.migration.specs.declared.Alone.{Alone}
 use Rattle.migration.specs.declared.Alone.the-variants.{NewEpoch, Reset}
+use Rattle.migration.proofs.Laws.{SweepOpen, AloneOpen}
 use Rattle.scan.specs.Look.{lookOf}
 use Rattle.scan.specs.Scan.{stopTests, stopCode, ScanOut, scanRun, partOf, rangeRun, checkedBy, dcheckTests, dcheckCode, dcheckOf}
 use Rattle.scan.specs.declared.Scan.{Scan}
@@ -38,7 +39,8 @@ use Rattle.export.specs.Export.{exportTests, exportCode, groundOf, exportStep, 
 use Rattle.export.specs.declared.ExportAnswer.{ExportAnswer}
 use Rattle.export.proofs.Laws.{export-ready}
 use Rattle.export.proofs.Moves.{exported}
-use Rattle.history.proofs.Sessions.{track-formed, start-formed, abort-formed, pause-formed, epoch-formed, check-formed, reset-formed, token-formed, run-formed, new-formed}
+use Rattle.history.proofs.Sessions.{track-formed, start-formed, abort-formed, pause-formed, epoch-formed, reset-formed}
+use Rattle.history.proofs.Sessions.{check-formed, token-formed, run-formed, new-formed}
 
 -- ---- New
 
@@ -50,11 +52,11 @@ new-made len created e =
 
 -- ---- the calls on every page and on the session alone
 
-pub sweep-made : (k : Sweep) (s : Session) (len : ℕ) (stops : Bool) → Open s len (phasesOf (sweepWhen k)) (sweepTests k s stops) → Formed (sweepNext k s) len
-sweep-made Track s len stops o = track-formed (formed-means s len (o .formed)) (leb-false lastEpoch (s .clock .tlb) (o .passed .0))
-sweep-made Start s len stops o = start-formed (formed-means s len (o .formed))
-sweep-made Pause s len stops o = pause-formed (formed-means s len (o .formed)) (o .comes)
-sweep-made Abort s len stops o = abort-formed (formed-means s len (o .formed))
+pub sweep-made : (k : Sweep) (s : Session) (t : List ℕ) → SweepOpen k s t → Formed (sweepNext k s) (length t)
+sweep-made Track s t o = track-formed (formed-means s (length t) (o .formed)) (leb-false lastEpoch (s .clock .tlb) (o .passed .0))
+sweep-made Start s t o = start-formed (formed-means s (length t) (o .formed))
+sweep-made Pause s t o = pause-formed (formed-means s (length t) (o .formed)) (o .comes)
+sweep-made Abort s t o = abort-formed (formed-means s (length t) (o .formed))
 
 -- and it has its eight streams
 pub sweep-streams : (k : Sweep) (s : Session) → length (s .streams) ≡ streamPlaces → length (sweepNext k s .streams) ≡ streamPlaces
@@ -63,7 +65,7 @@ sweep-streams Start s n = refl
 sweep-streams Pause s n = n
 sweep-streams Abort s n = refl
 
-pub alone-made : (k : Alone) (s : Session) (len : ℕ) → Open s len (phasesOf (aloneWhen k)) (aloneTests k s) → Formed (aloneNext k s) len
+pub alone-made : (k : Alone) (s : Session) (len : ℕ) → AloneOpen k s len → Formed (aloneNext k s) len
 alone-made NewEpoch s len o = epoch-formed (formed-means s len (o .formed)) (o .comes) (leb-false lastEpoch (s .epoch) (o .passed .1 .0))
 alone-made Reset s len o = reset-formed (formed-means s len (o .formed))
 

@@ -113,7 +113,11 @@ few-lists d (a ∷ l) (suc k) w n c ls m unfinished inside enough far =
 
 -- ---- the reset
 
-reset-makes : (s : Session) (t : List ℕ) → formed s (length t) ≡ true → s .phase ≡ Blackout → onSession Reset s t ≡ outcome 0 (withCheck s unchecked) t
+-- a reset of a paused guest is done
+abbrev Resets : Session → List ℕ → Type 0
+Resets s t = onSession Reset s t ≡ outcome 0 (withCheck s unchecked) t
+
+reset-makes : (s : Session) (t : List ℕ) → formed s (length t) ≡ true → s .phase ≡ Blackout → Resets s t
 reset-makes s t f p = alone-done Reset s t (record { formed = f; comes = rw p; passed = tt })
 
 reset-mid : (w : World) → Sound w → formed (w .session) (length (w .table)) ≡ true → Paused w → Mid (reset w) (w .session .fixed .pages) (w .session .fixed .created) []
@@ -141,7 +145,7 @@ module _ (w : World) (sound : Sound w) (f : formed (w .session) (length (w .tabl
   -- DCHECKs that get on by d pages each come to the end, if there are enough of them
   enough-end : (d : ℕ) → ((a : Ask) → List·Memᴰ a asks → Enough d (w .session .fixed .pages) a) → w .session .fixed .pages ≤ length asks * d → complete (checked (reset w) asks .world) ≡ true
   enough-end d enough far =
-      let s : onSession Reset (w .session) (w .table) ≡ outcome 0 (withCheck (w .session) unchecked) (w .table) = reset-makes (w .session) (w .table) f (p .phase) in
+      let s : Resets (w .session) (w .table) = reset-makes (w .session) (w .table) f (p .phase) in
       let place : reset w .session .check .place ≡ 0 = rw s in
       let some : 1 ≤ w .session .fixed .pages = formed-means (w .session) (length (w .table)) f .pages .low in
       to-end d asks (reset w) (w .session .fixed .pages) (w .session .fixed .created) [] (reset-mid w sound f p) (rw s) (omega (arith, place, some)) enough (omega (arith, place, far))
@@ -166,7 +170,7 @@ module _ (w : World) (sound : Sound w) (f : formed (w .session) (length (w .tabl
   pub check-few : ((a : Ask) → List·Memᴰ a asks → Full (pageCount (w .table)) a) → length (checked (reset w) asks .lists) ≤ mostLists
   check-few full =
       let m = formed-means (w .session) (length (w .table)) f in
-      let s : onSession Reset (w .session) (w .table) ≡ outcome 0 (withCheck (w .session) unchecked) (w .table) = reset-makes (w .session) (w .table) f (p .phase) in
+      let s : Resets (w .session) (w .table) = reset-makes (w .session) (w .table) f (p .phase) in
       let place : reset w .session .check .place ≡ 0 = rw s in
       few-lists mostEntries asks mostLists (reset w) (w .session .fixed .pages) (w .session .fixed .created) [] (reset-mid w sound f p) (rw s) (omega (arith, place, m .pages .low)) (full-enough full) (omega (arith, place, m .pages .high))
 
@@ -185,14 +189,18 @@ module _ (w : World) (sound : Sound w) (f : formed (w .session) (length (w .tabl
 
 -- ---- the new epoch
 
-epoch-makes : (s : Session) (t : List ℕ) → formed s (length t) ≡ true → s .phase ≡ Blackout → busy s ≡ false → s .epoch < lastEpoch → onSession NewEpoch s t ≡ outcome 0 (withEpoch s (s .epoch + 1)) t
+-- a new epoch is done where streams are at rest and the limit is not reached
+abbrev Advances : Session → List ℕ → Type 0
+Advances s t = onSession NewEpoch s t ≡ outcome 0 (withEpoch s (s .epoch + 1)) t
+
+epoch-makes : (s : Session) (t : List ℕ) → formed s (length t) ≡ true → s .phase ≡ Blackout → busy s ≡ false → s .epoch < lastEpoch → Advances s t
 epoch-makes s t f p b l = alone-done NewEpoch s t (record { formed = f; comes = rw p; passed = (b, (lt-leb lastEpoch (s .epoch) l, tt)) })
 
 epoch-left : (w : World) (n c : ℕ) (ls : List (List ℕ)) → Mid w n c ls → length (w .session .streams) ≡ streamPlaces → complete w ≡ true → Left (nextEpoch w) c ls
 unfolding busy
 epoch-left w n c ls m streams done =
     let g = m .between in
-    let made : onSession NewEpoch (w .session) (w .table) ≡ outcome 0 (withEpoch (w .session) (w .session .epoch + 1)) (w .table) = epoch-makes (w .session) (w .table) (m .formed) (g .phase) (g .rest) (g .epoch) in
+    let made : Advances (w .session) (w .table) = epoch-makes (w .session) (w .table) (m .formed) (g .phase) (g .rest) (g .epoch) in
     let r = formed-means (w .session) (length (w .table)) (m .formed) in
     record {
       formed = formed-after w (given (OnSession NewEpoch) [] []) (m .formed);

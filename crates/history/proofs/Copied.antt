@@ -132,7 +132,8 @@ module _ (w : World) (l b : List ℕ) (h : Copied (w .session .phase) (w .memory
       answered-copied (newCode (length t) created) s t (newSession (pageCount t) created) (replicate (length t) 0) (w .memory) nothing (w .copy) (w .copy) h (λ e x. absurd x)
   call-copied (OnPage page m) = page-copied m s t page (w .memory) (rememberedBy (OnPage page m) (w .memory)) (w .copy) h
   call-copied (OnAll k) =
-      answered-copied (sweepCode k s t) s t (sweepNext k s) (sweepOf (onWords (sweptBy k)) t) (w .memory) (w .memory) (w .copy) (copiedBy (OnAll k) (w .memory) (w .copy)) h (λ e. sweep-copied k)
+      answered-copied (sweepCode k s t) s t (sweepNext k s) (sweepOf (onWords (sweptBy k)) t)
+      (w .memory) (w .memory) (w .copy) (copiedBy (OnAll k) (w .memory) (w .copy)) h (λ e. sweep-copied k)
   call-copied (OnSession k) =
       answered-copied (aloneCode k s (length t)) s t (aloneNext k s) t (w .memory) (w .memory) (w .copy) (w .copy) h (λ e. alone-copied k)
   call-copied StartToken =

@@ -66,7 +66,7 @@ module _ (s : Session) (t : List ℕ) (f : formed s (length t) ≡ true) where
   all-formed : (k : Sweep) → formed (onAll k s t .answer .session) (length (onAll k s t .table)) ≡ true
   all-formed k =
       all-either (λ (o : Outcome). formed (o .answer .session) (length (o .table)) ≡ true) k s t
-      (λ o. rw (sweep-length (onWords (sweptBy k)) t) (means-formed (sweepNext k s) (length t) (sweep-made k s (length t) _ o)))
+      (λ o. rw (sweep-length (onWords (sweptBy k)) t) (means-formed (sweepNext k s) (length t) (sweep-made k s t o)))
       (λ e. f)
 
   session-formed : (k : Alone) → formed (onSession k s t .answer .session) (length (onSession k s t .table)) ≡ true

@@ -37,7 +37,10 @@ module _ (w : World) (l b : List ℕ) (f : Sound w) where
   call-sound (OnPage page m) = record { orderly = f .orderly; fine = page-stands (w .session) (w .table) (w .log) (f .fine) m page }
   call-sound (OnAll k) =
       all-either (λ (o : Outcome). Sound (leftBy w (given (OnAll k) l b) (effect o l b))) k (w .session) (w .table)
-      (λ o. record { orderly = either Orderly (beginsLog k) (λ q. orderly-none) (λ q. f .orderly); fine = sweep-stands (w .session) (w .table) (w .log) (f .fine) k o })
+      (λ o. record {
+        orderly = either Orderly (beginsLog k) (λ q. orderly-none) (λ q. f .orderly);
+        fine = sweep-stands (w .session) (w .table) (w .log) (f .fine) k o;
+      })
       (λ e. record { orderly = rw e (f .orderly); fine = rw e (f .fine) })
   call-sound (OnSession k) = record { orderly = f .orderly; fine = alone-stands (w .session) (w .table) (w .log) (f .fine) k }
   call-sound StartToken = record { orderly = f .orderly; fine = token-stands (w .session) (w .table) (w .log) (f .fine) }

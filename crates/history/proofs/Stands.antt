@@ -15,20 +15,20 @@ use Rattle.page.specs.declared.sweeps.Sweep.{Sweep}
 use Rattle.page.specs.declared.sweeps.Sweep.the-variants.{Track, Start, Pause, Abort}
 use Rattle.table.specs.Table.{pageCount, pageAt}
 use Rattle.table.proofs.Laws.{some-none}
-use Rattle.session.specs.Session.{phasesOf, begun, withPhase, newSession}
+use Rattle.session.specs.Session.{begun, withPhase, newSession}
 use Rattle.session.specs.Outcome.{Outcome}
 use Rattle.session.specs.declared.Phase.{Phase}
 use Rattle.session.specs.declared.Phase.the-variants.{Idle, Live, Blackout, Done}
 use Rattle.session.specs.declared.Session.{Session}
-use Rattle.session.proofs.Laws.{Open, answered-either, gate-open}
+use Rattle.session.proofs.Laws.{answered-either, gate-open}
 use Rattle.session.proofs.FormedLaws.{tlb-fits}
 use Rattle.memory.specs.Memory.{newCode, newOut, onPage}
 use Rattle.memory.proofs.Laws.{page-either}
-use Rattle.migration.specs.Migration.{sweepWhen, stopsAt, stopped, sweepTests, sweepNext, aloneNext, onSession}
+use Rattle.migration.specs.Migration.{sweepNext, aloneNext, onSession}
 use Rattle.migration.specs.Token.{tokenTests, tokenCode, tokenOut}
 use Rattle.migration.specs.declared.Alone.{Alone}
 use Rattle.migration.specs.declared.Alone.the-variants.{NewEpoch, Reset}
-use Rattle.migration.proofs.Laws.{alone-either}
+use Rattle.migration.proofs.Laws.{SweepOpen, alone-either}
 use Rattle.scan.specs.Scan.{rangeRun, checkedBy, ScanOutcome, dscanTests, dscanCode, dscanOf, dscanOut, dcheckTests, dcheckCode, dcheckOf, dcheckOut}
 use Rattle.scan.specs.declared.Scan.{Scan}
 use Rattle.scan.proofs.Laws.{dscan-fits, dcheck-fits}
@@ -100,7 +100,7 @@ module _ (s : Session) (t : List ℕ) (log : List Sent) (f : Stands s t log) whe
   -- ---- of the migration
 
   -- what a call on every page makes: a start begins a new log
-  pub sweep-stands : (k : Sweep) → Open s (length t) (phasesOf (sweepWhen k)) (sweepTests k s (stopped (stopsAt k) t)) → Stands (sweepNext k s) (swept k t) (cond (beginsLog k) [] log)
+  pub sweep-stands : (k : Sweep) → SweepOpen k s t → Stands (sweepNext k s) (swept k t) (cond (beginsLog k) [] log)
   sweep-stands Track o =
       fine-steps (omega arith) (sweep-steps Track _ _ t (λ i h. uncached-step _ _ (pageAt t i) (omega arith) (λ u. still-guest (s .phase) (o .comes) _ _))) f
   sweep-stands Start o =

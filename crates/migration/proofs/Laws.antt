@@ -36,25 +36,37 @@ sweep-refuses Start s stops = refl
 sweep-refuses Pause s stops = refl
 sweep-refuses Abort s stops = refl
 
--- one that is done has passed its gate and its tests
-pub sweep-open : (k : Sweep) (s : Session) (t : List ℕ) → sweepCode k s t ≡ 0 → Open s (length t) (phasesOf (sweepWhen k)) (sweepTests k s (stopped (stopsAt k) t))
+-- past its gate and its tests
+abbrev pub SweepOpen : Sweep → Session → List ℕ → Type 0
+SweepOpen k s t = Open s (length t) (phasesOf (sweepWhen k)) (sweepTests k s (stopped (stopsAt k) t))
+
+pub sweep-open : (k : Sweep) (s : Session) (t : List ℕ) → sweepCode k s t ≡ 0 → SweepOpen k s t
 unfolding sweepCode
 sweep-open k s t e = gate-open s (length t) (phasesOf (sweepWhen k)) (sweepTests k s _) (refuses-coded (sweepTests k s _) (sweep-refuses k s _)) e
 
--- what holds of the outcome of a call that is done and of the one that gives back what came
-pub all-either : (P : Outcome → Type 0) (k : Sweep) (s : Session) (t : List ℕ) → (Open s (length t) (phasesOf (sweepWhen k)) (sweepTests k s (stopped (stopsAt k) t)) → P (outcome 0 (sweepNext k s) (sweepOf (onWords (sweptBy k)) t))) → (eqb (sweepCode k s t) 0 ≡ false → P (outcome (sweepCode k s t) s t)) → P (onAll k s t)
-unfolding onAll
-all-either P k s t made kept =
-    answered-either P (sweepCode k s t) s t (sweepNext k s) (sweepOf (onWords (sweptBy k)) t)
-    (λ q. let z = eqb-true (sweepCode k s t) 0 q in rw z (made (sweep-open k s t z)))
-    kept
+module _ (P : Outcome → Type 0) (k : Sweep) (s : Session) (t : List ℕ) where
+  -- what holds of the outcome of a call that is done and of the one that gives back what came
+  pub all-either :
+      (SweepOpen k s t → P (outcome 0 (sweepNext k s) (sweepOf (onWords (sweptBy k)) t))) →
+      (eqb (sweepCode k s t) 0 ≡ false → P (outcome (sweepCode k s t) s t)) →
+      P (onAll k s t)
+  unfolding onAll
+  all-either made kept =
+      answered-either P (sweepCode k s t) s t (sweepNext k s) (sweepOf (onWords (sweptBy k)) t)
+      (λ q. let z = eqb-true (sweepCode k s t) 0 q in rw z (made (sweep-open k s t z)))
+      kept
 
--- what it answers from what it is told: the table is asked for only where the gate is passed
-pub sweep-answer : (k : Sweep) (s : Session) (t : List ℕ) (gate : ℕ) (stops : Bool) → gate ≡ gated s (length t) (phasesOf (sweepWhen k)) [] → (gate ≡ 0 → stops ≡ stopped (stopsAt k) t) → sweepAnswer k s gate stops ≡ onAll k s t .answer
-unfolding sweepAnswer onAll sweepCode answered
-sweep-answer k s t gate stops e f =
-    ap (λ (code : ℕ). answerFor code s (sweepNext k s))
-    (behind-gate s (length t) (phasesOf (sweepWhen k)) (sweepTests k s stops) (sweepTests k s (stopped (stopsAt k) t)) gate e (λ z. ap (λ (b : Bool). firstOf (sweepTests k s b)) (f z)))
+module _ (k : Sweep) (s : Session) (t : List ℕ) (gate : ℕ) (stops : Bool) where
+  -- what it answers from what it is told: the table is asked for only where the gate is passed
+  pub sweep-answer :
+      gate ≡ gated s (length t) (phasesOf (sweepWhen k)) [] →
+      (gate ≡ 0 → stops ≡ stopped (stopsAt k) t) →
+      sweepAnswer k s gate stops ≡ onAll k s t .answer
+  unfolding sweepAnswer onAll sweepCode answered
+  sweep-answer e f =
+      ap (λ (code : ℕ). answerFor code s (sweepNext k s))
+      (behind-gate s (length t) (phasesOf (sweepWhen k)) (sweepTests k s stops) (sweepTests k s (stopped (stopsAt k) t)) gate e
+      (λ z. ap (λ (b : Bool). firstOf (sweepTests k s b)) (f z)))
 
 -- ---- the calls on the session alone
 
@@ -62,19 +74,26 @@ pub alone-refuses : (k : Alone) (s : Session) → allCodes refuses (aloneTests k
 alone-refuses NewEpoch s = refl
 alone-refuses Reset s = refl
 
-pub alone-open : (k : Alone) (s : Session) (len : ℕ) → aloneCode k s len ≡ 0 → Open s len (phasesOf (aloneWhen k)) (aloneTests k s)
+abbrev pub AloneOpen : Alone → Session → ℕ → Type 0
+AloneOpen k s len = Open s len (phasesOf (aloneWhen k)) (aloneTests k s)
+
+pub alone-open : (k : Alone) (s : Session) (len : ℕ) → aloneCode k s len ≡ 0 → AloneOpen k s len
 unfolding aloneCode
 alone-open k s len e = gate-open s len (phasesOf (aloneWhen k)) (aloneTests k s) (refuses-coded (aloneTests k s) (alone-refuses k s)) e
 
-pub alone-either : (P : Outcome → Type 0) (k : Alone) (s : Session) (t : List ℕ) → (Open s (length t) (phasesOf (aloneWhen k)) (aloneTests k s) → P (outcome 0 (aloneNext k s) t)) → (eqb (aloneCode k s (length t)) 0 ≡ false → P (outcome (aloneCode k s (length t)) s t)) → P (onSession k s t)
-unfolding onSession
-alone-either P k s t made kept =
-    answered-either P (aloneCode k s (length t)) s t (aloneNext k s) t
-    (λ q. let z = eqb-true (aloneCode k s (length t)) 0 q in rw z (made (alone-open k s (length t) z)))
-    kept
+module _ (P : Outcome → Type 0) (k : Alone) (s : Session) (t : List ℕ) where
+  pub alone-either :
+      (AloneOpen k s (length t) → P (outcome 0 (aloneNext k s) t)) →
+      (eqb (aloneCode k s (length t)) 0 ≡ false → P (outcome (aloneCode k s (length t)) s t)) →
+      P (onSession k s t)
+  unfolding onSession
+  alone-either made kept =
+      answered-either P (aloneCode k s (length t)) s t (aloneNext k s) t
+      (λ q. let z = eqb-true (aloneCode k s (length t)) 0 q in rw z (made (alone-open k s (length t) z)))
+      kept
 
--- one that has passed its gate and its tests is done
-pub alone-done : (k : Alone) (s : Session) (t : List ℕ) → Open s (length t) (phasesOf (aloneWhen k)) (aloneTests k s) → onSession k s t ≡ outcome 0 (aloneNext k s) t
+-- one that is past its gate and its tests is done
+pub alone-done : (k : Alone) (s : Session) (t : List ℕ) → AloneOpen k s (length t) → onSession k s t ≡ outcome 0 (aloneNext k s) t
 unfolding onSession aloneCode answered
 alone-done k s t o = rw (open-gate s (length t) (phasesOf (aloneWhen k)) (aloneTests k s) o)
 

@@ -80,28 +80,32 @@ same-length c = search needs
 
 returns : tie.Need-returns
 returns c =
-    let made = c .before .before .before .new .ensures in
-    rw (c .before .before .before .before .before .before .call .given .1) (c .without-numbers .ensures ∙ ap withoutNumbers (made .0), (made .1, (refl, refl)))
+    let at-made = c .before .before .before in
+    let made = at-made .new .ensures in
+    rw (at-made .before .before .before .call .given .1) (c .without-numbers .ensures ∙ ap withoutNumbers (made .0), (made .1, (refl, refl)))
 
 same-length-2 : tie.Need-same-length-2
 same-length-2 c = search needs
 
 returns-2 : tie.Need-returns-2
 returns-2 c =
-    let made = c .before .before .before .on-page .ensures in
-    rw (c .before .before .before .before .before .before .call2 .given .1) (c .without-numbers2 .ensures ∙ ap withoutNumbers (made .0), (made .1, (refl, refl)))
+    let at-made = c .before .before .before in
+    let made = at-made .on-page .ensures in
+    rw (at-made .before .before .before .call2 .given .1) (c .without-numbers2 .ensures ∙ ap withoutNumbers (made .0), (made .1, (refl, refl)))
 
 same-length-3 : tie.Need-same-length-3
 same-length-3 c = search needs
 
 returns-3 : tie.Need-returns-3
 returns-3 c =
-    let made = c .before .before .before .on-all .ensures in
-    rw (c .before .before .before .before .before .before .call3 .given .1) (c .without-numbers3 .ensures ∙ ap withoutNumbers (made .0), (made .1, (refl, refl)))
+    let at-made = c .before .before .before in
+    let made = at-made .on-all .ensures in
+    rw (at-made .before .before .before .call3 .given .1) (c .without-numbers3 .ensures ∙ ap withoutNumbers (made .0), (made .1, (refl, refl)))
 
 returns-4 : tie.Need-returns-4
 returns-4 c =
-    rw (c .before .before .before .call4 .given .1) (c .without-numbers4 .ensures ∙ ap withoutNumbers (c .before .on-session .ensures ∙ alone-answer _ _ _ _ refl), (sym (alone-table _ _ _), (refl, refl)))
+    let made = c .before .on-session .ensures ∙ alone-answer _ _ _ _ refl in
+    rw (c .before .before .before .call4 .given .1) (c .without-numbers4 .ensures ∙ ap withoutNumbers made, (sym (alone-table _ _ _), (refl, refl)))
 
 same-length-4 : tie.Need-same-length-4
 same-length-4 c = search needs
@@ -117,8 +121,9 @@ same-length-6 c = search needs
 
 returns-6 : tie.Need-returns-6
 returns-6 c =
-    let made = c .before .before .before .before .before .dscan .ensures in
-    rw (c .before .before .before .before .before .before .before .before .before .call5 .given .1) (c .scan-numbers .ensures ∙ ap scanNumbers (made .0), (made .1 .0, (made .1 .1, refl)))
+    let at-made = c .before .before .before .before .before in
+    let made = at-made .dscan .ensures in
+    rw (at-made .before .before .before .before .call5 .given .1) (c .scan-numbers .ensures ∙ ap scanNumbers (made .0), (made .1 .0, (made .1 .1, refl)))
 
 same-length-7 : tie.Need-same-length-7
 same-length-7 c = search needs
@@ -128,8 +133,9 @@ same-length-8 c = search needs
 
 returns-7 : tie.Need-returns-7
 returns-7 c =
-    let made = c .before .before .before .before .before .dcheck .ensures in
-    rw (c .before .before .before .before .before .before .before .before .before .call6 .given .1) (c .scan-numbers2 .ensures ∙ ap scanNumbers (made .0), (made .1 .0, (made .1 .1, refl)))
+    let at-made = c .before .before .before .before .before in
+    let made = at-made .dcheck .ensures in
+    rw (at-made .before .before .before .before .call6 .given .1) (c .scan-numbers2 .ensures ∙ ap scanNumbers (made .0), (made .1 .0, (made .1 .1, refl)))
 
 same-length-9 : tie.Need-same-length-9
 same-length-9 c = search needs
@@ -142,8 +148,10 @@ same-length-11 c = search needs
 
 returns-8 : tie.Need-returns-8
 returns-8 c =
-    let made = c .before .before .before .before .before .before .before .export .ensures in
-    rw (c .before .before .before .before .before .before .before .before .before .before .before .before .call7 .given .1) (c .export-numbers .ensures ∙ ap exportNumbers (made .0), (made .1 .0, (made .1 .1 .0, made .1 .1 .1)))
+    let at-made = c .before .before .before .before .before .before .before in
+    let made = at-made .export .ensures in
+    rw (at-made .before .before .before .before .before .call7 .given .1)
+    (c .export-numbers .ensures ∙ ap exportNumbers (made .0), (made .1 .0, (made .1 .1 .0, made .1 .1 .1)))
 
 pub perform-spec : {M : Type 1} → statement M
 perform-spec =

@@ -21,7 +21,10 @@ answer-requires-2 : tie.Need-answer-requires-2
 answer-requires-2 c κs = search needs
 
 returns-2 : tie.Need-returns-2
-returns-2 c = rw (c .before .before .before .before .before .enum-told .given .1, ← c .before .before .before .before .is-busy .ensures, c .before .before .before .if1 .left, le-leb _ _ (c .before .if2 .taken)) (c .answer2 .ensures)
+returns-2 c =
+    let at-if1 = c .before .before .before in
+    let at-busy = at-if1 .before in
+    rw (at-busy .before .enum-told .given .1, ← at-busy .is-busy .ensures, at-if1 .if1 .left, le-leb _ _ (c .before .if2 .taken)) (c .answer2 .ensures)
 
 add-with-epoch : tie.Need-add-with-epoch
 add-with-epoch c = omega arith
@@ -42,7 +45,12 @@ answer-requires-4 : tie.Need-answer-requires-4
 answer-requires-4 c κs = search needs
 
 returns-3 : tie.Need-returns-3
-returns-3 c = rw (c .before .before .before .before .before .before .before .enum-told .given .1, ← c .before .before .before .before .before .before .is-busy .ensures, c .before .before .before .before .before .if1 .left, lt-leb _ _ (c .before .before .before .if2 .left), ← c .before .with-epoch .ensures) (c .answer3 .ensures)
+returns-3 c =
+    let at-if2 = c .before .before .before in
+    let at-if1 = at-if2 .before .before in
+    let at-busy = at-if1 .before in
+    rw (at-busy .before .enum-told .given .1, ← at-busy .is-busy .ensures, at-if1 .if1 .left, lt-leb _ _ (at-if2 .if2 .left), ← c .before .with-epoch .ensures)
+    (c .answer3 .ensures)
 
 returns-4 : tie.Need-returns-4
 returns-4 c = rw (c .before .before .enum-told2 .given .1, ← c .before .reset-check .ensures) (c .answer4 .ensures)

@@ -17,14 +17,21 @@ answer-requires c κs = search needs
 
 returns : tie.Need-returns
 unfolding aloneAnswer aloneCode
-returns c = rw (gate-first, ← c .before .before .before .alone-when .ensures, ← c .before .before .gate .ensures, ne-eqb _ _ (c .before .if1 .taken), ne-eqb _ _ (c .before .if1 .taken)) (c .answer .ensures)
+returns c =
+    let at-if1 = c .before in
+    let at-gate = at-if1 .before in
+    rw (gate-first, ← at-gate .before .alone-when .ensures, ← at-gate .gate .ensures, ne-eqb _ _ (at-if1 .if1 .taken), ne-eqb _ _ (at-if1 .if1 .taken))
+    (c .answer .ensures)
 
 alone-passed-requires : tie.Need-alone-passed-requires
 alone-passed-requires c κs = search needs
 
 returns-2 : tie.Need-returns-2
 unfolding aloneAnswer aloneCode
-returns-2 c = rw (gate-first, ← c .before .before .before .alone-when .ensures, ← c .before .before .gate .ensures, eq-eqb _ _ (c .before .if1 .left)) (c .alone-passed .ensures)
+returns-2 c =
+    let at-if1 = c .before in
+    let at-gate = at-if1 .before in
+    rw (gate-first, ← at-gate .before .alone-when .ensures, ← at-gate .gate .ensures, eq-eqb _ _ (at-if1 .if1 .left)) (c .alone-passed .ensures)
 
 pub on-session-spec : {M : Type 1} → statement M
 on-session-spec =

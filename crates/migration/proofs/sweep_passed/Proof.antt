@@ -54,7 +54,10 @@ answer-requires-6 : tie.Need-answer-requires-6
 answer-requires-6 c κs = search needs
 
 returns-4 : tie.Need-returns-4
-returns-4 c = rw (c .before .before .before .before .enum-told3 .given .1, ← c .before .before .before .is-busy .ensures, c .before .before .if3 .left, c .before .if4 .taken) (c .answer6 .ensures)
+returns-4 c =
+    let at-if3 = c .before .before in
+    let at-busy = at-if3 .before in
+    rw (at-busy .before .enum-told3 .given .1, ← at-busy .is-busy .ensures, at-if3 .if3 .left, c .before .if4 .taken) (c .answer6 .ensures)
 
 with-phase-requires : tie.Need-with-phase-requires
 with-phase-requires c κs = search needs
@@ -72,13 +75,20 @@ answer-requires-8 : tie.Need-answer-requires-8
 answer-requires-8 c κs = search needs
 
 returns-5 : tie.Need-returns-5
-returns-5 c = rw (c .before .before .before .before .before .enum-told .given .1, lt-leb _ _ (c .before .before .before .if1 .left), ← c .before .with-clock .ensures) (c .answer2 .ensures)
+returns-5 c =
+    let at-if1 = c .before .before .before in
+    rw (at-if1 .before .before .enum-told .given .1, lt-leb _ _ (at-if1 .if1 .left), ← c .before .with-clock .ensures) (c .answer2 .ensures)
 
 returns-6 : tie.Need-returns-6
 returns-6 c = rw (c .before .before .before .enum-told2 .given .1, c .before .before .if2 .left, ← c .before .begin .ensures) (c .answer4 .ensures)
 
 returns-7 : tie.Need-returns-7
-returns-7 c = rw (c .before .before .before .before .before .enum-told3 .given .1, ← c .before .before .before .before .is-busy .ensures, c .before .before .before .if3 .left, c .before .before .if4 .left, ← c .before .with-phase .ensures) (c .answer7 .ensures)
+returns-7 c =
+    let at-if4 = c .before .before in
+    let at-if3 = at-if4 .before in
+    let at-busy = at-if3 .before in
+    rw (at-busy .before .enum-told3 .given .1, ← at-busy .is-busy .ensures, at-if3 .if3 .left, at-if4 .if4 .left, ← c .before .with-phase .ensures)
+    (c .answer7 .ensures)
 
 returns-8 : tie.Need-returns-8
 returns-8 c = rw (c .before .before .enum-told4 .given .1, ← c .before .begin2 .ensures) (c .answer8 .ensures)
