@@ -45,7 +45,26 @@ returns-3 : tie.Need-returns-3
 returns-3 c = λ e q. rw (c .before .enum-told3 .given .1) (c .uncache2 .ensures e)
 
 returns-4 : tie.Need-returns-4
-returns-4 c = λ e q. rw (c .before .before .enum-told4 .given .1) (let z = pageOf (c .before .before .before .before .args .w) .state in c .refresh2 .ensures (goesBy aborts z) e (c .before .abort-of .ensures ∙ ap (numberBy aborts) q ∙ number-by aborts z))
+returns-4 c =
+    let z = pageOf (c .before .before .before .before .args .w) .state in
+    λ e q.
+    rw (c .before .before .enum-told4 .given .1)
+    (c .refresh2 .ensures (goesBy aborts z) e (c .before .abort-of .ensures ∙ ap (numberBy aborts) q ∙ number-by aborts z))
 
 pub swept-spec : {M : Type 1} → statement M
-swept-spec = tie.close (tie.spec enum-told uncache-requires enum-told-2 refresh-requires enum-told-3 uncache-requires-2 enum-told-4 abort-of-requires refresh-requires-2 returns returns-2 returns-3 returns-4)
+swept-spec =
+    tie.close
+    (tie.spec
+    enum-told
+    uncache-requires
+    enum-told-2
+    refresh-requires
+    enum-told-3
+    uncache-requires-2
+    enum-told-4
+    abort-of-requires
+    refresh-requires-2
+    returns
+    returns-2
+    returns-3
+    returns-4)
