@@ -35,10 +35,9 @@ returns c =
     let at-stopped = at-answer .before in
     let at-gate = at-stopped .before .before .before in
     let a = at-gate .before .before .args in
-    let answer =
-        at-answer .sweep-answer .ensures
-        ∙ sweep-answer (a .k) _ (now (a .table)) _ _ (at-gate .sweep-gate .ensures)
-        (λ z. rw (eq-eqb _ _ z, at-stopped .before .stops-at .ensures) at (at-stopped .is-stopped .ensures)) in
+    let seen = rw (at-stopped .before .stops-at .ensures) at (at-stopped .is-stopped .ensures) in
+    let told = sweep-answer (a .k) _ (now (a .table)) _ _ (at-gate .sweep-gate .ensures) (λ z. rw (eq-eqb _ _ z) at seen) in
+    let answer = at-answer .sweep-answer .ensures ∙ told in
     rw (← answered-again _ _ _ _ _ _ answer) (at-finish .finish .ensures)
 
 pub on-all-spec : {M : Type 1} → statement M
