@@ -7,7 +7,7 @@ use Rattle.page.specs.declared.sweeps.Sweep.the-variants.{Track, Start, Pause, 
 use Rattle.migration.specs.declared.Alone.the-variants.{NewEpoch, Reset}
 use Rattle.calls.specs.declared.Call.the-variants.{New, OnPage, OnAll, OnSession, StartToken, Dscan, Dcheck, Export}
 use Rattle.host.specs.Host.{lentAll, lentList, lent, Left, hostOf}
-use Rattle.host.specs.declared.plays.Numbers.{Numbers}
+use Rattle.host.specs.declared.answers.Numbers.{Numbers}
 use Rattle.chirpsteeple.specs.declared.ChirpTokenAnswer.{ChirpTokenAnswer}
 use Rattle.chirpsteeple.specs.declared.ChirpScanAnswer.{ChirpScanAnswer}
 use Rattle.chirpsteeple.specs.declared.ChirpExportAnswer.{ChirpExportAnswer}

@@ -5,9 +5,8 @@ ghost use Rattle.chirpsteeple.specs.Functions.{newLeft, writeLeft, addLe
 ghost use Rattle.chirpsteeple.specs.Functions.{trackLeft, startLeft, pauseLeft, abortLeft, newEpochLeft, resetLeft};
 ghost use Rattle.chirpsteeple.specs.Functions.{tokenLeft, dscanLeft, dcheckLeft, exportLeft, tokenToC, scanToC, exportToC};
 use calls::Call;
-use host::lists;
+use host::answers::Numbers;
 use host::pages;
-use host::plays::Numbers;
 use host::sweeps;
 use host::tables;
 use migration::Alone;
@@ -204,7 +203,7 @@ pub extern "C" fn chirp_dscan(
         count: count as usize,
         budget: budget as usize,
     };
-    scan_answer(lists::with_list(When::Live, call, session, table, list))
+    scan_answer(host_lists::with_list(When::Live, call, session, table, list))
 }
 
 #[no_mangle]
@@ -222,7 +221,7 @@ pub extern "C" fn chirp_dcheck(
     let call = Call::Dcheck {
         budget: budget as usize,
     };
-    scan_answer(lists::with_list(When::Blackout, call, session, table, list))
+    scan_answer(host_lists::with_list(When::Blackout, call, session, table, list))
 }
 
 #[no_mangle]
@@ -248,7 +247,7 @@ pub extern "C" fn chirp_export(
         info,
         budget,
     };
-    let n = lists::with_lists(When::Moving, call, session, table, list, buffer, resume);
+    let n = host_lists::with_lists(When::Moving, call, session, table, list, buffer, resume);
     ChirpExportAnswer {
         code: n.code,
         info: n.info,

@@ -24,7 +24,7 @@ use Rattle.wire.specs.Sessions.{sessionOf, sessionWords}
 use Rattle.wire.proofs.BytesLaws.{bytes-length}
 use Rattle.wire.proofs.SessionLaws.{session-length}
 use Rattle.wire.proofs.Promises.{reads-back}
-use Rattle.host.specs.declared.plays.Numbers.{Numbers}
+use Rattle.host.specs.declared.answers.Numbers.{Numbers}
 use Rattle.host.specs.Host.{Lent, lent, Left, inLayout, isList, codeAlone, played, hostOf}
 use Rattle.host.specs.Promises.{Meets, OneOutcome, Untouched, codeAndPage, RefusalWritesNothing, NamedToC, NoLayout, firstGroup, noListIn, NoList, onePage, Gives42, Met}
 use Rattle.host.proofs.LayoutLaws.{host-none, host-either}

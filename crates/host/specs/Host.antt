@@ -15,7 +15,7 @@ use Rattle.calls.specs.declared.Call.{Call}
 use Rattle.calls.specs.declared.Returned.{Returned}
 use Rattle.wire.specs.Bytes.{wordsOf, bytesOf}
 use Rattle.wire.specs.Sessions.{sessionLength, fits, sessionOf, sessionWords}
-use Rattle.host.specs.declared.plays.Numbers.{Numbers}
+use Rattle.host.specs.declared.answers.Numbers.{Numbers}
 
 -- what a caller lends, in bytes, and an export's resume, which is a number in C; a call that takes no list or no buffer is lent none
 pub record Lent : Type 0 where

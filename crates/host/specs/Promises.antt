@@ -18,7 +18,7 @@ use Rattle.calls.specs.declared.Call.{Call}
 use Rattle.calls.specs.declared.Call.the-variants.{OnAll, Dscan, Dcheck, Export}
 use Rattle.wire.specs.Bytes.{wordsOf, bytesOf}
 use Rattle.wire.specs.Sessions.{sessionOf, sessionWords}
-use Rattle.host.specs.declared.plays.Numbers.{Numbers}
+use Rattle.host.specs.declared.answers.Numbers.{Numbers}
 use Rattle.host.specs.Host.{Lent, lent, lentAll, Left, inLayout, isList, codeAlone, hostOf}
 
 -- what a function's contract says of its numbers, those that C does not get being 0, and of each slice that it was lent

@@ -1,9 +1,8 @@
 // What the lent bytes mean: session and table in their layouts, lists and buffers as words.
 ghost use mathlib.Core.Path.{_≡_};
-ghost use mathlib.Core.Bool.{true, cond};
-ghost use Prim.Native.Nat.{_*_};
+ghost use mathlib.Core.Bool.{true};
 ghost use lib.ListN.{length};
-ghost use Rattle.wire.specs.Bytes.{wordsOf, bytesOf};
+ghost use Rattle.wire.specs.Bytes.{wordsOf};
 ghost use Rattle.wire.specs.Sessions.{sessionLength, sessionOf};
 ghost use Rattle.host.specs.Host.{isTable, isList};
 ghost use Rattle.host.specs.Inside.{readable};
@@ -60,15 +59,4 @@ pub fn is_list(len: usize) -> bool
     ensures { λ r. ⌜ r ≡ isList len ⌝ }
 {
     (len % 8 == 0) & (len <= 8 * MOST_ENTRIES)
-}
-
-// The words that a call made, unless it refused.
-pub fn write_unless(refused: bool, words: &[u64], b: &mut [u8])
-    requires { ⌜ length (now b) ≡ 8 * length (now words) ⌝ }
-    ensures { λ _. ⌜ now (b .exit) ≡ cond refused (now (b .entry)) (bytesOf (now (words .entry))) ⌝ }
-{
-    if refused {
-        return;
-    }
-    bytes::encode(words, b);
 }

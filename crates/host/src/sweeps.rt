@@ -5,7 +5,7 @@ ghost use Rattle.migration.specs.Migration.{stopped, onAll};
 ghost use Rattle.calls.specs.declared.Call.the-variants.{New, OnAll};
 ghost use Rattle.wire.specs.Bytes.{wordsOf};
 ghost use Rattle.host.specs.Host.{Lent, lent, Left, hostOf};
-use crate::plays;
+use crate::answers;
 use crate::reads;
 use migration::Stops;
 use page::sweeps::Sweep;
@@ -46,7 +46,7 @@ pub fn on_all(k: Sweep, session: &mut [u8], table: &mut [u8]) -> u64
         let answer = answer_of(k, found.session, &table[..]);
         if answer.code == codes::DONE {
             tables::sweep_all(table, k);
-            plays::put_session(session, answer.session);
+            answers::put_session(session, answer.session);
         }
         return answer.code;
     }
@@ -66,7 +66,7 @@ pub fn new(session: &mut [u8], table: &mut [u8], created: u64) -> u64
         let answer = memory::new_answer(s, table.len() / 8, created);
         if answer.code == codes::DONE {
             tables::clear(table);
-            plays::put_session(session, answer.session);
+            answers::put_session(session, answer.session);
         }
         return answer.code;
     }

@@ -7,8 +7,8 @@ ghost use Rattle.migration.specs.Token.{tokenOut};
 ghost use Rattle.wire.specs.Bytes.{wordsOf};
 ghost use Rattle.calls.specs.declared.Call.the-variants.{OnSession, StartToken};
 ghost use Rattle.host.specs.Host.{Lent, lent, Left, hostOf};
-use crate::plays;
-use crate::plays::Numbers;
+use crate::answers;
+use crate::answers::Numbers;
 use crate::reads;
 use migration::Alone;
 use migration::token;
@@ -26,7 +26,7 @@ pub fn on_session(k: Alone, session: &mut [u8], table: &[u8]) -> u64
     let found = reads::read(&session[..], table.len());
     if found.fits {
         let answer = migration::on_session(k, found.session, table.len() / 8);
-        plays::put_unless(answer.code, session, answer.session);
+        answers::put_unless(answer.code, session, answer.session);
         return answer.code;
     }
     codes::MALFORMED
@@ -69,7 +69,7 @@ pub fn start_token(session: &mut [u8], table: &[u8]) -> Numbers
         let token = answer.token;
         let code = token::number_of(token);
         let page = token::page_of(token);
-        plays::put_unless(code, session, answer.session);
+        answers::put_unless(code, session, answer.session);
         return Numbers {
             code,
             page: page as u64,
@@ -81,5 +81,5 @@ pub fn start_token(session: &mut [u8], table: &[u8]) -> Numbers
             buffers: 0,
         };
     }
-    plays::code_alone(codes::MALFORMED)
+    answers::code_alone(codes::MALFORMED)
 }

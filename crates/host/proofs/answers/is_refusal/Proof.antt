@@ -1,7 +1,7 @@
 -- The tests are the definition's.
 use borrow.Author.Needs.{needs}
-use Rattle.host.proofs.plays.is_refusal.Statement.{statement}
-use Rattle.host.proofs.plays.is_refusal.Tie as tie
+use Rattle.host.proofs.answers.is_refusal.Statement.{statement}
+use Rattle.host.proofs.answers.is_refusal.Tie as tie
 
 returns : tie.Need-returns
 returns c = search needs

@@ -1,9 +1,9 @@
 -- Behind the gate is 42 alone (`gate-first`).
 use borrow.Author.Needs.{needs}
 use borrow.Author.Tests.{eq-eqb, ne-eqb}
 use Rattle.host.proofs.ListLaws.{gate-first}
-use Rattle.host.proofs.lists.first_group.Statement.{statement}
-use Rattle.host.proofs.lists.first_group.Tie as tie
+use Rattle.host_lists.proofs.first_group.Statement.{statement}
+use Rattle.host_lists.proofs.first_group.Tie as tie
 
 gate-requires : tie.Need-gate-requires
 gate-requires c κs = search needs

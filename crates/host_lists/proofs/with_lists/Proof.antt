@@ -7,11 +7,11 @@ use lib.ListN.{length}
 use denote.Ref.{now}
 use Rattle.refusals.proofs.Laws.{and-left, and-right}
 use Rattle.session.specs.Session.{phasesOf}
 use Rattle.host.specs.Host.{lentAll, isList, played}
 use Rattle.host.proofs.LayoutLaws.{readable-means, read-layout, host-played, host-refused}
 use Rattle.host.proofs.ListLaws.{no-list}
-use Rattle.host.proofs.lists.with_lists.Statement.{statement}
-use Rattle.host.proofs.lists.with_lists.Tie as tie
+use Rattle.host_lists.proofs.with_lists.Statement.{statement}
+use Rattle.host_lists.proofs.with_lists.Tie as tie
 
 read-requires : tie.Need-read-requires
 read-requires c κs = search needs

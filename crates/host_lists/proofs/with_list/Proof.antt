@@ -1,7 +1,7 @@
 -- A call with a list alone is one with lists whose buffer is empty: all that `with_lists` leaves but the buffer.
 use borrow.Author.Needs.{needs}
-use Rattle.host.proofs.lists.with_list.Statement.{statement}
-use Rattle.host.proofs.lists.with_list.Tie as tie
+use Rattle.host_lists.proofs.with_list.Statement.{statement}
+use Rattle.host_lists.proofs.with_list.Tie as tie
 
 slice-aggregate-buffer : tie.Need-slice-aggregate-buffer
 slice-aggregate-buffer c = search needs

@@ -2,8 +2,8 @@
 use borrow.Author.Needs.{needs}
 use Rattle.refusals.proofs.Laws.{not-true, not-false}
 use mathlib.Core.Path.{sym, _∙_}
-use Rattle.host.proofs.plays.put_unless.Statement.{statement}
-use Rattle.host.proofs.plays.put_unless.Tie as tie
+use Rattle.host.proofs.answers.put_unless.Statement.{statement}
+use Rattle.host.proofs.answers.put_unless.Tie as tie
 
 is-refusal-requires : tie.Need-is-refusal-requires
 is-refusal-requires c κs = search needs

@@ -6,8 +6,8 @@ use native.Mathlib.Omega.{arith}
 use mathlib.Core.Path.{_≡_, sym, ap, _∙_}
 use Prim.Native.Nat.{ℕ, _*_, _/_, _%_}
 use lib.ListN.{length}
-use Rattle.host.proofs.plays.play.Statement.{statement}
-use Rattle.host.proofs.plays.play.Tie as tie
+use Rattle.host_lists.proofs.plays.play_words.Statement.{statement}
+use Rattle.host_lists.proofs.plays.play_words.Tie as tie
 
 eights : (n : ℕ) → n % 8 ≡ 0 → n ≡ 8 * (n / 8)
 eights n e = omega arith
@@ -72,8 +72,8 @@ returns-2 c =
     let taken = sym (c .before .before .before .before .before .before .before .before .before .before .is-refusal .ensures) ∙ c .before .before .before .before .before .before .before .before .before .if1 .left in
     (rw words at (made .0), (rw taken (c .before .before .before .before .before .before .before .put-session .ensures), (rw taken (c .before .before .encode .ensures ∙ ap bytesOf (rw words at (made .1 .0))), (rw words at (made .1 .1 .0), rw words at (made .1 .1 .1)))))
 
-pub play-spec : {M : Type 1} → statement M
-play-spec =
+pub play-words-spec : {M : Type 1} → statement M
+play-words-spec =
     tie.close
     (tie.spec
     decode-requires

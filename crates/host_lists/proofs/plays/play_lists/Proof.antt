@@ -3,10 +3,10 @@ use borrow.Author.Needs.{needs}
 use mathlib.Core.Path.{sym}
 use Prim.Native.Nat.{ℕ}
 use lib.ListN.{replicate, length-replicate}
 use Rattle.host.proofs.LayoutLaws.{table-whole, room-for}
 use Rattle.host.proofs.ListLaws.{list-room, list-fits}
-use Rattle.host.proofs.lists.play_lists.Statement.{statement}
-use Rattle.host.proofs.lists.play_lists.Tie as tie
+use Rattle.host_lists.proofs.plays.play_lists.Statement.{statement}
+use Rattle.host_lists.proofs.plays.play_lists.Tie as tie
 
 slice-aggregate-words : tie.Need-slice-aggregate-words
 slice-aggregate-words c = search needs

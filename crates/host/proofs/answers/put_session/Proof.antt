@@ -2,8 +2,8 @@
 use borrow.Author.Needs.{needs}
 use mathlib.Core.Path.{ap, _∙_}
 use Rattle.wire.specs.Bytes.{bytesOf}
-use Rattle.host.proofs.plays.put_session.Statement.{statement}
-use Rattle.host.proofs.plays.put_session.Tie as tie
+use Rattle.host.proofs.answers.put_session.Statement.{statement}
+use Rattle.host.proofs.answers.put_session.Tie as tie
 
 slice-aggregate-words : tie.Need-slice-aggregate-words
 slice-aggregate-words c = search needs
