@@ -31,7 +31,8 @@ module _ (i e : ℕ) (h : Holding) where
   Coming : List Sent → (ℕ → Holding) → Type 0
   Coming l D = ((D i ≡ h) × ((y : Sent) → List·Memᴰ y l → y .page ≡ i → e ≤ y .epoch)) ⊎ ((x : Sent) × List·Memᴰ x l × (x .page ≡ i) × (x .epoch ≡ e))
 
-  settle : (l : List Sent) (D : ℕ → Holding) → Rising l → ((y : Sent) → List·Memᴰ y l → y .page ≡ i → e ≤ y .epoch → madeBy y ≡ h) → Coming l D → replay D l i ≡ h
+  settle : (l : List Sent) (D : ℕ → Holding) → Rising l → ((y : Sent) → List·Memᴰ y l → y .page ≡ i → e ≤ y .epoch → madeBy y ≡ h) → Coming l D →
+      replay D l i ≡ h
   unfolding Coming
   settle [] D r t (inl k) = k .0
   settle [] D r t (inr k) = absurd (List·Memᴰ·not-nil (k .1))
@@ -51,7 +52,8 @@ module _ (i e : ℕ) (h : Holding) where
       go : Coming (x ∷ xs) D → Coming xs (receiving D x)
       go (inl c) =
           inl (
-            either (λ (z : Holding). z ≡ h) (eqb (x .page) i) (λ q. t x (List·Memᴰ·head refl) (eqb-true _ _ q) (c .1 x (List·Memᴰ·head refl) (eqb-true _ _ q))) (λ q. c .0),
+            either (λ (z : Holding). z ≡ h) (eqb (x .page) i) (λ q. t x (List·Memᴰ·head refl) (eqb-true _ _ q) (c .1 x (List·Memᴰ·head refl) (eqb-true _ _ q)))
+                (λ q. c .0),
             λ y m a. c .1 y (List·Memᴰ·tail m) a,
           )
       go (inr c) = late (c .0) (c .2) (c .3) (List·Memᴰ·cases-cons (c .1))
@@ -106,7 +108,8 @@ module _ (i : ℕ) (log : List Sent) (e : ℕ) (h : Holding) (p : Past i log e h
   past-more a b =
       record {
         below = λ y m c. ⊎-elim (λ k. omega (arith, b, p .below y k c)) (λ k. omega (arith, epoch-of y k)) (List·Memᴰ·append-cases log m);
-        top = λ y m c q. ⊎-elim (λ k. absurd (omega (arith, b, q, p .below y k c))) (λ k. ap madeBy (List·Memᴰ·eq-of-singleton k)) (List·Memᴰ·append-cases log m);
+        top = λ y m c q. ⊎-elim (λ k. absurd (omega (arith, b, q, p .below y k c))) (λ k. ap madeBy (List·Memᴰ·eq-of-singleton k))
+            (List·Memᴰ·append-cases log m);
         found = inr (z, Memᴰ·append-right log (List·Memᴰ·head refl), a, refl);
       }
     where
@@ -116,7 +119,8 @@ module _ (i : ℕ) (log : List Sent) (e : ℕ) (h : Holding) (p : Past i log e h
 pub rising-more : (log : List Sent) (z : Sent) → Rising log → ((y : Sent) → List·Memᴰ y log → y .epoch ≤ z .epoch) → Rising (log ++ (z ∷ []))
 rising-more [] z r k = (λ y m. absurd (List·Memᴰ·not-nil m), tt)
 rising-more (x ∷ xs) z r k = (
-  λ y m. ⊎-elim (λ n. r .0 y n) (λ n. omega (arith, k x (List·Memᴰ·head refl), ap (λ (v : Sent). v .epoch) (List·Memᴰ·eq-of-singleton n))) (List·Memᴰ·append-cases xs m),
+  λ y m. ⊎-elim (λ n. r .0 y n) (λ n. omega (arith, k x (List·Memᴰ·head refl), ap (λ (v : Sent). v .epoch) (List·Memᴰ·eq-of-singleton n)))
+      (List·Memᴰ·append-cases xs m),
   rising-more xs z (r .1) (λ y m. k y (List·Memᴰ·tail m)),
 )
 
@@ -169,7 +173,8 @@ lawful-more log z e h p later f k w x m = ⊎-elim (λ n. old (w x n) n) (λ n. 
           under = record {
             earlier = t .under .earlier;
             below = λ y u a b. ⊎-elim (λ v. t .under .below y v a b) (λ v. absurd (omega (arith, b, k x n, epoch-of y v))) (List·Memᴰ·append-cases log u);
-            top = λ y u a b. ⊎-elim (λ v. t .under .top y v a b) (λ v. absurd (omega (arith, b, k x n, epoch-of y v, t .under .earlier))) (List·Memᴰ·append-cases log u);
+            top = λ y u a b. ⊎-elim (λ v. t .under .top y v a b) (λ v. absurd (omega (arith, b, k x n, epoch-of y v, t .under .earlier)))
+                (List·Memᴰ·append-cases log u);
             found = ⊎-elim (λ v. inl v) (λ v. inr (v .0, Memᴰ·append-left _ (v .1), v .2, v .3)) (t .under .found);
           };
         }
@@ -213,7 +218,8 @@ once-across (x ∷ A) B r y z m n a b =
     (List·Memᴰ·cases-cons m)
 
 -- at its turn every entry finds what it needs: nothing for MIGRATE, something for the two others
-pub at-turn : (log A B : List Sent) (x : Sent) → Lawful log → Reordered log (A ++ (x ∷ B)) → Once (A ++ (x ∷ B)) → Fits (x .operation) (replay nothing A (x .page))
+pub at-turn : (log A B : List Sent) (x : Sent) → Lawful log → Reordered log (A ++ (x ∷ B)) → Once (A ++ (x ∷ B)) →
+    Fits (x .operation) (replay nothing A (x .page))
 unfolding Coming
 at-turn log A B x w r o = rw held (t .fits)
   where
@@ -238,7 +244,8 @@ at-turn log A B x w r o = rw held (t .fits)
         (λ n. omega (arith, b, t .under .earlier, rising-right A (x ∷ B) (r .rising) .0 y n))
         (List·Memᴰ·cases-cons m))
 
-    from : ((t .since ≡ 0) × (t .has ≡ absent)) ⊎ ((y : Sent) × List·Memᴰ y log × (y .page ≡ x .page) × (y .epoch ≡ t .since)) → Coming (x .page) (t .since) (t .has) A nothing
+    from : ((t .since ≡ 0) × (t .has ≡ absent)) ⊎ ((y : Sent) × List·Memᴰ y log × (y .page ≡ x .page) × (y .epoch ≡ t .since)) →
+        Coming (x .page) (t .since) (t .has) A nothing
     from (inl k) = inl (sym (k .1), λ y m a. omega (arith, k .0))
     from (inr k) = inr (k .0, seek (k .0) (k .2) (k .3) (List·Memᴰ·append-cases A (r .every (k .0) (k .1))), k .2, k .3)
 
@@ -253,7 +260,11 @@ at-turn log A B x w r o = rw held (t .fits)
 
 pub perm-once : {l₁ l₂ : List Sent} → List·Permᴰ l₁ l₂ → Once l₁ → Once l₂
 perm-once List·Permᴰ·nil o = o
-perm-once (List·Permᴰ·cons e d) o = (λ y m a b. o .0 y (perm-mem (Permᴰ·symm d) m) (a ∙ ap (λ (v : Sent). v .page) (sym e)) (b ∙ ap (λ (v : Sent). v .epoch) (sym e)), perm-once d (o .1))
+perm-once (List·Permᴰ·cons e d) o = (
+  λ y m a b. o .0 y (perm-mem (Permᴰ·symm d) m) (a ∙ ap (λ (v : Sent). v .page) (sym e))
+      (b ∙ ap (λ (v : Sent). v .epoch) (sym e)),
+  perm-once d (o .1),
+)
 perm-once (List·Permᴰ·swap {a} {b} {a′} {b′} {l} e₁ e₂) o = (
   λ y m u v. ⊎-elim (λ q. o .0 b (List·Memᴰ·head refl) (cc) (cc)) (λ n. o .1 .0 y n (cc) (cc)) (List·Memᴰ·cases-cons m),
   (λ y m u v. o .0 y (List·Memᴰ·tail m) (cc) (cc), o .1 .1),

@@ -73,7 +73,9 @@ module _ (s : Session) (t l b : List ℕ) where
   code-named : (c : Call) → named (effectOf c s t l b .returned .code) ≡ true
   unfolding newOut newCode tokenOut tokenCode dscanCode dcheckCode exportCode
   code-named (New created) =
-      answered-named (newCode (length t) created) s t (newSession (pageCount t) created) (replicate (length t) 0) (first-all named (not (legal (length t)) gives codes.malformed ∷ not (within fewestCreated mostCreated created) gives codes.operandInvalid ∷ []) refl refl)
+      answered-named (newCode (length t) created) s t (newSession (pageCount t) created) (replicate (length t) 0)
+      (first-all named (not (legal (length t)) gives codes.malformed ∷ not (within fewestCreated mostCreated created) gives codes.operandInvalid
+      ∷ []) refl refl)
   code-named (OnPage page m) = page-named m s t page
   code-named (OnAll k) = all-named k s t
   code-named (OnSession k) = session-named k s t

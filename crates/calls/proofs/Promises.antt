@@ -60,9 +60,11 @@ Returns o s t = (o .answer .session ≡ s) × (o .table ≡ t)
 zero-no-refusal : (n : ℕ) → eqb n 0 ≡ true → refusal n ≡ true → ⊥
 zero-no-refusal n e r = false≢true (ap refusal (sym (eqb-true n 0 e)) ∙ r)
 
-answered-keeps : (code : ℕ) (s : Session) (t : List ℕ) (s' : Session) (t' : List ℕ) → refusal (answered code s t s' t' .answer .code) ≡ true → Returns (answered code s t s' t') s t
+answered-keeps : (code : ℕ) (s : Session) (t : List ℕ) (s' : Session) (t' : List ℕ) → refusal (answered code s t s' t' .answer .code) ≡ true →
+    Returns (answered code s t s' t') s t
 answered-keeps code s t s' t' =
-    answered-either (λ (o : Outcome). refusal (o .answer .code) ≡ true → Returns o s t) code s t s' t' (λ e r. absurd (zero-no-refusal code e r)) (λ e r. (refl, refl))
+    answered-either (λ (o : Outcome). refusal (o .answer .code) ≡ true → Returns o s t) code s t s' t' (λ e r. absurd (zero-no-refusal code e r))
+    (λ e r. (refl, refl))
 
 token-keeps : (s : Session) (t : List ℕ) → refusal (tokenSays (tokenOut s t .token) .code) ≡ true → tokenOut s t .session ≡ s
 unfolding tokenOut
@@ -72,7 +74,8 @@ token-keeps s t r = go (eqb (tokenCode s t) 0) refl
     go true e = absurd (zero-no-refusal (tokenCode s t) e (ap refusal (sym (token-number (tokenCode s t) t)) ∙ r))
     go false e = refl
 
-token-page-zero : (s : Session) (t : List ℕ) → eqb (tokenSays (tokenOut s t .token) .code) codes.exportedDirtyPagesRemain ≡ false → eqb (tokenSays (tokenOut s t .token) .code) codes.unexportedMemoryRemains ≡ false → tokenSays (tokenOut s t .token) .page ≡ 0
+token-page-zero : (s : Session) (t : List ℕ) → eqb (tokenSays (tokenOut s t .token) .code) codes.exportedDirtyPagesRemain ≡ false →
+    eqb (tokenSays (tokenOut s t .token) .code) codes.unexportedMemoryRemains ≡ false → tokenSays (tokenOut s t .token) .page ≡ 0
 unfolding tokenOut inTheWay
 token-page-zero s t e f =
     let n = token-numbers (tokenCode s t) t in
@@ -90,7 +93,24 @@ no-refusal r x y = true≢false (sym y ∙ not-true r x)
 
 module _ (s : Session) (t l b : List ℕ) where
   -- an answer of the code and the page alone, with list and buffer as they came
-  as-came : (code page : ℕ) (s' : Session) (t' : List ℕ) → s' ≡ s → t' ≡ t → Kept s t l b (record { returned = record { code = code; page = page; next = 0; first = 0; last = 0; info = 0; errors = 0; buffers = 0; session = s' }; table = t'; list = l; buffer = b })
+  as-came : (code page : ℕ) (s' : Session) (t' : List ℕ) → s' ≡ s → t' ≡ t →
+      Kept s t l b (record {
+        returned = record {
+          code = code;
+          page = page;
+          next = 0;
+          first = 0;
+          last = 0;
+          info = 0;
+          errors = 0;
+          buffers = 0;
+          session =
+              s';
+        };
+        table = t';
+        list = l;
+        buffer = b;
+      })
   as-came code page s' t' x y =
       record { session = x; table = y; list = refl; buffer = refl; next = refl; first = refl; last = refl; info = refl; errors = refl; buffers = refl }
 
@@ -99,11 +119,13 @@ module _ (s : Session) (t l b : List ℕ) where
 
   keeps : (c : Call) → refusal (effectOf c s t l b .returned .code) ≡ true → Kept s t l b (effectOf c s t l b)
   unfolding newOut onPage onAll onSession
-  keeps (New created) r = plain-kept (newOut s t created) (answered-keeps (newCode (length t) created) s t (newSession (pageCount t) created) (replicate (length t) 0) r)
+  keeps (New created) r = plain-kept (newOut s t created) (answered-keeps (newCode (length t) created) s t (newSession (pageCount t) created)
+      (replicate (length t) 0) r)
   keeps (OnPage page m) r = plain-kept (onPage m s t page) (answered-keeps _ s t _ _ r)
   keeps (OnAll k) r = plain-kept (onAll k s t) (answered-keeps _ s t _ _ r)
   keeps (OnSession k) r = plain-kept (onSession k s t) (answered-keeps _ s t _ _ r)
-  keeps StartToken r = as-came (tokenSays (tokenOut s t .token) .code) (tokenSays (tokenOut s t .token) .page) (tokenOut s t .session) t (token-keeps s t r) refl
+  keeps StartToken r = as-came (tokenSays (tokenOut s t .token) .code) (tokenSays
+      (tokenOut s t .token) .page) (tokenOut s t .session) t (token-keeps s t r) refl
   keeps (Dscan first count budget) r =
       dscan-either s t l first count budget (λ (o : ScanOutcome). refusal (o .answer .code) ≡ true → Kept s t l b (scanEffect o b))
       (λ e x. absurd (no-refusal _ (range-code ran scans-ran count (dscanOf s first budget) t l s) x))
@@ -111,7 +133,8 @@ module _ (s : Session) (t l b : List ℕ) where
       r
   keeps (Dcheck budget) r =
       dcheck-either s t l budget (λ (o : ScanOutcome). refusal (o .answer .code) ≡ true → Kept s t l b (scanEffect o b))
-      (λ e x. absurd (no-refusal _ (range-code ran scans-ran (s .fixed .pages - s .check .place) (dcheckOf s budget) t l (checkedBy s (dchecked s t l budget .scanned))) x))
+      (λ e x. absurd (no-refusal _ (range-code ran scans-ran (s .fixed .pages - s .check .place) (dcheckOf s budget) t l
+      (checkedBy s (dchecked s t l budget .scanned))) x))
       (λ x. as-came _ 0 s t refl refl)
       r
   keeps (Export stream resume info budget) r =
@@ -120,7 +143,8 @@ module _ (s : Session) (t l b : List ℕ) where
       (λ x. as-came _ 0 s t refl refl)
       r
 
-  page-zero : (c : Call) → eqb (effectOf c s t l b .returned .code) codes.exportedDirtyPagesRemain ≡ false → eqb (effectOf c s t l b .returned .code) codes.unexportedMemoryRemains ≡ false → effectOf c s t l b .returned .page ≡ 0
+  page-zero : (c : Call) → eqb (effectOf c s t l b .returned .code) codes.exportedDirtyPagesRemain ≡ false →
+      eqb (effectOf c s t l b .returned .code) codes.unexportedMemoryRemains ≡ false → effectOf c s t l b .returned .page ≡ 0
   page-zero (New created) e f = refl
   page-zero (OnPage page m) e f = refl
   page-zero (OnAll k) e f = refl
@@ -174,9 +198,20 @@ strange-stays = record { words = λ c s t l b i n e. strange-words s t l b i e c
 
 -- ---- pages
 
-sweep-done : (k : Sweep) (s s' : Session) (t : List ℕ) (i : ℕ) → i < pageCount t → pageAt (answeredBy (sweptBy k) 0 s s' t .table) i ≡ unlessStrange (sweptBy k) (pageAt t i)
+sweep-done : (k : Sweep) (s s' : Session) (t : List ℕ) (i : ℕ) → i < pageCount t →
+    pageAt (answeredBy (sweptBy k) 0 s s' t .table) i ≡ unlessStrange (sweptBy k) (pageAt t i)
 unfolding answered
 sweep-done k s s' t i h = page-swept (sweptBy k) (swept-held k) t i h
 
 pub pages-move : PagesMove
-pages-move = record { one = page-done; others = page-other; all = sweep-done; entry = step-page; failed = step-failed; beside = λ g. step-other (exportStep g); range = range-page; look = look-page }
+pages-move = record {
+  one = page-done;
+  others = page-other;
+  all = sweep-done;
+  entry = step-page;
+  failed = step-failed;
+  beside =
+      λ g. step-other (exportStep g);
+  range = range-page;
+  look = look-page;
+}

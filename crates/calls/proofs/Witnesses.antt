@@ -15,7 +15,8 @@ use Rattle.migration.specs.Migration.{sweepCode, onAll}
 use Rattle.calls.specs.Witnesses.{Met}
 
 pub met : Met
-unfolding legal formed busy gated answered recordOf plain stateOf isStrange isIn hasMove pageOf tracked wordsAt invalid unexportable statusOf sentEntry failedEntry takenOf onPage sweepCode onAll entryOf
+unfolding legal formed busy gated answered recordOf plain stateOf isStrange isIn hasMove pageOf tracked wordsAt invalid unexportable statusOf sentEntry
+    failedEntry takenOf onPage sweepCode onAll entryOf
 met =
     record {
       refuses = refl;

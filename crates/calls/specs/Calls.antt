@@ -29,7 +29,18 @@ withoutNumbers a =
 
 abbrev pub tokenNumbers : TokenAnswer → Returned
 tokenNumbers a =
-    record { code = tokenSays (a .token) .code; page = tokenSays (a .token) .page; next = 0; first = 0; last = 0; info = 0; errors = 0; buffers = 0; session = a .session }
+    record {
+      code = tokenSays (a .token) .code;
+      page = tokenSays (a .token) .page;
+      next = 0;
+      first = 0;
+      last = 0;
+      info = 0;
+      errors = 0;
+      buffers = 0;
+      session =
+          a .session;
+    }
 
 abbrev pub scanNumbers : ScanAnswer → Returned
 scanNumbers a =

@@ -47,7 +47,8 @@ pub record Same (r r' : Returned) (u u' m m' v v' : List ℕ) : Type 0 where
 
 -- no second outcome satisfies it
 pub record OneOutcome : Type 0 where
-  pub one : (c : Call) (s : Session) (t l b : List ℕ) (r r' : Returned) (u u' m m' v v' : List ℕ) → Meets c s t l b r u m v → Meets c s t l b r' u' m' v' → Same r r' u u' m m' v v'
+  pub one : (c : Call) (s : Session) (t l b : List ℕ) (r r' : Returned) (u u' m m' v v' : List ℕ) → Meets c s t l b r u m v → Meets c s t l b r' u' m' v' →
+      Same r r' u u' m m' v v'
 
 -- 0 to 3 and 40 to 56
 abbrev pub named : ℕ → Bool
@@ -77,7 +78,8 @@ pub record Kept (s : Session) (t l b : List ℕ) (e : Effect) : Type 0 where
 -- a refusal changes nothing, and its answer is the code; a page stands in an answer for 53 and 54 alone
 pub record RefusalKeeps : Type 0 where
   pub all : (c : Call) (s : Session) (t l b : List ℕ) → refusal (effectOf c s t l b .returned .code) ≡ true → Kept s t l b (effectOf c s t l b)
-  pub page : (c : Call) (s : Session) (t l b : List ℕ) → eqb (effectOf c s t l b .returned .code) codes.exportedDirtyPagesRemain ≡ false → eqb (effectOf c s t l b .returned .code) codes.unexportedMemoryRemains ≡ false → effectOf c s t l b .returned .page ≡ 0
+  pub page : (c : Call) (s : Session) (t l b : List ℕ) → eqb (effectOf c s t l b .returned .code) codes.exportedDirtyPagesRemain ≡ false →
+      eqb (effectOf c s t l b .returned .code) codes.unexportedMemoryRemains ≡ false → effectOf c s t l b .returned .page ≡ 0
 
 abbrev pub isNew : Call → Bool
 isNew (New created) = true
@@ -91,17 +93,24 @@ isNew (Export stream resume info budget) = false
 
 -- no call but New changes a strange record
 pub record StrangeStays : Type 0 where
-  pub words : (c : Call) (s : Session) (t l b : List ℕ) (i : ℕ) → isNew c ≡ false → strange (pageAt t i) ≡ true → wordsAt (effectOf c s t l b .table) i ≡ wordsAt t i
+  pub words : (c : Call) (s : Session) (t l b : List ℕ) (i : ℕ) → isNew c ≡ false → strange (pageAt t i) ≡ true →
+      wordsAt (effectOf c s t l b .table) i ≡ wordsAt t i
 
--- a call that is done has moved its page, or every page, and no other; an entry that succeeds moves the page that it names and no other, and one that fails none; after a scan every page's words are as
+-- a call that is done has moved its page, or every page, and no other; an entry that succeeds moves the page that it names and no other, and one that fails
+-- none; after a scan every page's words are as
 -- they were or as the look that listed it left them, and those are the words of `listedPage`. Both epochs of a session that passes 40 are below 2 ^ 16, as a
 -- record's are; and past its tests a scan's range lies within the table (`dscan-fits`, `dcheck-fits` in `scan`).
 pub record PagesMove : Type 0 where
-  pub one : (m : Move) (s : Session) (t : List ℕ) (at : ℕ) → onPage m s t at .answer .code ≡ 0 → pageAt (onPage m s t at .table) at ≡ movedBy m (s .clock) (pageAt t at)
+  pub one : (m : Move) (s : Session) (t : List ℕ) (at : ℕ) → onPage m s t at .answer .code ≡ 0 →
+      pageAt (onPage m s t at .table) at ≡ movedBy m (s .clock) (pageAt t at)
   pub others : (m : Move) (s : Session) (t : List ℕ) (at k : ℕ) → (k ≡ at → ⊥) → wordsAt (onPage m s t at .table) k ≡ wordsAt t k
-  pub all : (k : Sweep) (s s' : Session) (t : List ℕ) (i : ℕ) → i < pageCount t → pageAt (answeredBy (sweptBy k) 0 s s' t .table) i ≡ unlessStrange (sweptBy k) (pageAt t i)
-  pub entry : (g : Ground) (x : Standing) → g .epoch < 2 ^ 16 → gpaOf x < pageCount (x .table) → taking (exportStep g) x .status ≡ 0 → pageAt (stepped (exportStep g) x .table) (gpaOf x) ≡ exportedPage (g .epoch) (pageAt (x .table) (gpaOf x))
-  pub failed : (g : Ground) (x : Standing) → (taking (exportStep g) x .status ≡ 0 → ⊥) → wordsAt (stepped (exportStep g) x .table) (gpaOf x) ≡ wordsAt (x .table) (gpaOf x)
+  pub all : (k : Sweep) (s s' : Session) (t : List ℕ) (i : ℕ) → i < pageCount t →
+      pageAt (answeredBy (sweptBy k) 0 s s' t .table) i ≡ unlessStrange (sweptBy k) (pageAt t i)
+  pub entry : (g : Ground) (x : Standing) → g .epoch < 2 ^ 16 → gpaOf x < pageCount (x .table) → taking (exportStep g) x .status ≡ 0 →
+      pageAt (stepped (exportStep g) x .table) (gpaOf x) ≡ exportedPage (g .epoch) (pageAt (x .table) (gpaOf x))
+  pub failed : (g : Ground) (x : Standing) → (taking (exportStep g) x .status ≡ 0 → ⊥) →
+      wordsAt (stepped (exportStep g) x .table) (gpaOf x) ≡ wordsAt (x .table) (gpaOf x)
   pub beside : (g : Ground) (x : Standing) (k : ℕ) → (k ≡ gpaOf x → ⊥) → wordsAt (stepped (exportStep g) x .table) k ≡ wordsAt (x .table) k
-  pub range : (count : ℕ) (scan : Scan) (t l : List ℕ) → 2 * scan .first + 2 * count ≤ length t → (k : ℕ) → LookedAt k (scan .clock) (wordsAt t k) (wordsAt (rangeRun count scan t l .part) k)
+  pub range : (count : ℕ) (scan : Scan) (t l : List ℕ) → 2 * scan .first + 2 * count ≤ length t → (k : ℕ) →
+      LookedAt k (scan .clock) (wordsAt t k) (wordsAt (rangeRun count scan t l .part) k)
   pub look : (w : PageWords) (number : ℕ) (clock : Clock) → clock .tlb < 2 ^ 16 → pageOf (lookOf w number clock .words) ≡ listedPage clock (pageOf w)

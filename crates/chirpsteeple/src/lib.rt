@@ -235,11 +235,16 @@ pub extern "C" fn chirp_export(
     info: u64,
     budget: u64,
 ) -> ChirpExportAnswer
-    ensures { λ r. ⌜ r ≡ exportToC (exportLeft (now (session .entry)) (now (table .entry)) (now (list .entry)) (now (buffer .entry)) stream resume info budget .answer) ⌝ }
-    ensures { λ _. ⌜ now (session .exit) ≡ exportLeft (now (session .entry)) (now (table .entry)) (now (list .entry)) (now (buffer .entry)) stream resume info budget .session ⌝ }
-    ensures { λ _. ⌜ now (table .exit) ≡ exportLeft (now (session .entry)) (now (table .entry)) (now (list .entry)) (now (buffer .entry)) stream resume info budget .table ⌝ }
-    ensures { λ _. ⌜ now (list .exit) ≡ exportLeft (now (session .entry)) (now (table .entry)) (now (list .entry)) (now (buffer .entry)) stream resume info budget .list ⌝ }
-    ensures { λ _. ⌜ now (buffer .exit) ≡ exportLeft (now (session .entry)) (now (table .entry)) (now (list .entry)) (now (buffer .entry)) stream resume info budget .buffer ⌝ }
+    ensures { λ r. ⌜ r ≡ exportToC (exportLeft (now (session .entry)) (now (table .entry)) (now (list .entry))
+        (now (buffer .entry)) stream resume info budget .answer) ⌝ }
+    ensures { λ _. ⌜ now (session .exit) ≡ exportLeft (now (session .entry)) (now (table .entry)) (now (list .entry))
+        (now (buffer .entry)) stream resume info budget .session ⌝ }
+    ensures { λ _. ⌜ now (table .exit) ≡ exportLeft (now (session .entry)) (now (table .entry)) (now (list .entry))
+        (now (buffer .entry)) stream resume info budget .table ⌝ }
+    ensures { λ _. ⌜ now (list .exit) ≡ exportLeft (now (session .entry)) (now (table .entry)) (now (list .entry))
+        (now (buffer .entry)) stream resume info budget .list ⌝ }
+    ensures { λ _. ⌜ now (buffer .exit) ≡ exportLeft (now (session .entry)) (now (table .entry)) (now (list .entry))
+        (now (buffer .entry)) stream resume info budget .buffer ⌝ }
 {
     let call = Call::Export {
         stream,

@@ -26,7 +26,8 @@ taken-status word w g =
     either (λ (x : Taken). x .status ≡ status) (eqb status 0) (λ q. sym (eqb-true _ _ q)) (λ q. refl)
 
 -- a success moves the page, and nothing else does
-pub taken-either : (P : PageWords → Type 0) (word : ℕ) (w : PageWords) (g : Ground) → (statusOf (entryOf word) (pageOf w) g ≡ 0 → P (onWords (exportedPage (g .epoch)) w)) → P w → P (takenOf word w g .words)
+pub taken-either : (P : PageWords → Type 0) (word : ℕ) (w : PageWords) (g : Ground) →
+    (statusOf (entryOf word) (pageOf w) g ≡ 0 → P (onWords (exportedPage (g .epoch)) w)) → P w → P (takenOf word w g .words)
 unfolding takenOf sentEntry failedEntry
 taken-either P word w g sent kept =
     either (λ (x : Taken). P (x .words)) (eqb (statusOf (entryOf word) (pageOf w) g) 0) (λ q. sent (eqb-true _ _ q)) (λ q. kept)

@@ -38,7 +38,8 @@ pub record Ready (entries room : ℕ) (run : Work) (x : Info) : Type 0 where
   pub ordered : begunBy run .next ≤ x .last
   pub counts : Counts (begunBy run)
 
-pub export-ready : (s : Session) (len entries room stream : ℕ) (resume : Bool) (x : Info) → exportCode s len entries room stream resume x ≡ 0 → Ready entries room (workOf s stream) x
+pub export-ready : (s : Session) (len entries room stream : ℕ) (resume : Bool) (x : Info) → exportCode s len entries room stream resume x ≡ 0 →
+    Ready entries room (workOf s stream) x
 unfolding exportCode workOf
 export-ready s len entries room stream resume x e =
     let o = gate-open s len moving (exportTests s entries room stream resume x) refl e in
@@ -51,8 +52,10 @@ export-ready s len entries room stream resume x e =
     let begun = go (workOf s stream) (rw here (f .streams stream low)) (p .1 .1 .1 .1 .1 .1 .0) (p .1 .1 .1 .1 .1 .1 .1 .0) in
     record { within = list .within; same = eqb-true _ _ (not-false (eqb room entries) (p .1 .0)); short = list .short; ordered = begun .0; counts = begun .1 }
   where
-    go : (r : Work) → WorkFormed (among moving (s .phase)) (s .fixed .created) stream r → noResumption resume r x ≡ false → noNewCall resume r ≡ false → (begunBy r .next ≤ x .last) × Counts (begunBy r)
+    go : (r : Work) → WorkFormed (among moving (s .phase)) (s .fixed .created) stream r → noResumption resume r x ≡ false → noNewCall resume r ≡ false →
+        (begunBy r .next ≤ x .last) × Counts (begunBy r)
     go AtRest w a b = (omega arith, record { errors = omega arith; filled = omega arith })
     go (Interrupted next last errors filled) w a b =
-        let y : x .last ≡ last = eqb-true _ _ (and-right (eqb (x .first) next) (eqb (x .last) last) (resumed resume (eqb (x .first) next && eqb (x .last) last) a b)) in
+        let y : x .last ≡ last = eqb-true _ _ (and-right (eqb (x .first) next) (eqb (x .last) last)
+        (resumed resume (eqb (x .first) next && eqb (x .last) last) a b)) in
         (omega (arith, w .ordered, y), record { errors = w .few-errors; filled = w .few-filled })

@@ -36,8 +36,24 @@ unfolding entryOf entryWord isStrange isIn numberIn tracked invalid unexportable
 marked-table =
     record {
       lines = λ p phase clock.
-          step-lines (markedLines p phase clock)
-          (λ w q. rw (q refl), (λ w q. rw (q refl), (λ w q. rw (q refl), (λ w q. rw (q refl), (λ w q. rw (q refl), (λ w q. rw (q refl), (λ w q. rw (q refl), (λ w q. refl, (λ w q. refl, (λ w q. refl, tt))))))))));
+          step-lines (markedLines p phase clock) (
+            λ w q. rw (q refl),
+            (
+              λ w q. rw (q refl),
+              (
+                λ w q. rw
+                    (q refl),
+                (
+                  λ w q. rw (q refl),
+                  (
+                    λ w q. rw
+                        (q refl),
+                    (λ w q. rw (q refl), (λ w q. rw (q refl), (λ w q. refl, (λ w q. refl, (λ w q. refl, tt))))),
+                  ),
+                ),
+              ),
+            ),
+          );
     }
 
 -- ---- each line is met: its page is what its words say

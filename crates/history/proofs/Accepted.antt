@@ -101,7 +101,8 @@ run-comes (suc n) scan i put part list =
     (λ e. rw (← there) (run-comes n scan (i + 1) _ _ _))
     (λ e. record { next = omega arith; complete = λ q. absurd (false≢true (rw q at other)) })
 
-pub check-made : (s : Session) (t l : List ℕ) (budget : ℕ) → dcheckCode s (length t) (length l) ≡ 0 → Formed (checkedBy s (dchecked s t l budget .scanned)) (length t)
+pub check-made : (s : Session) (t l : List ℕ) (budget : ℕ) → dcheckCode s (length t) (length l) ≡ 0 →
+    Formed (checkedBy s (dchecked s t l budget .scanned)) (length t)
 unfolding dcheckCode rangeRun checkedBy
 check-made s t l budget e =
     let o = gate-open s (length t) (Blackout ∷ []) (dcheckTests s (length l)) refl e in
@@ -120,7 +121,9 @@ check-made s t l budget e =
 -- ---- an export
 
 -- the stream is at rest at the end of the list, and else at an entry up to LAST
-pub export-made : (s : Session) (t l b : List ℕ) (stream : ℕ) (resume : Bool) (info budget : ℕ) → exportCode s (length t) (length l) (length b) stream resume (infoOf info) ≡ 0 → Formed (finishedBy s stream (infoOf info) (exported s t l b stream info budget .at) .session) (length t)
+pub export-made : (s : Session) (t l b : List ℕ) (stream : ℕ) (resume : Bool) (info budget : ℕ) →
+    exportCode s (length t) (length l) (length b) stream resume (infoOf info) ≡ 0 →
+    Formed (finishedBy s stream (infoOf info) (exported s t l b stream info budget .at) .session) (length t)
 unfolding exportCode finishedBy
 export-made s t l b stream resume info budget e =
     let x = infoOf info in
@@ -131,7 +134,8 @@ export-made s t l b stream resume info budget e =
     let r = export-ready s (length t) (length l) (length b) stream resume x e in
     let at = exported s t l b stream info budget .at in
     let m : Bounds (x .last) at
-    = run-bounds (exportStep (groundOf s)) (x .last) budget (standing (begunBy (workOf s stream)) t l b) (record { next = omega (arith, r .ordered); counts = r .counts }) in
+    = run-bounds (exportStep (groundOf s)) (x .last) budget (standing (begunBy (workOf s stream)) t l b)
+    (record { next = omega (arith, r .ordered); counts = r .counts }) in
     either (λ (a : ExportAnswer). Formed (a .session) (length t)) (isOver x (at .next))
     (λ q. run-formed f stream low AtRest tt)
     (λ q.

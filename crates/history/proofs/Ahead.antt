@@ -90,7 +90,8 @@ module _ (g : Ground) (paused : g .phase ≡ Blackout) (fits : g .epoch < 2 ^ 16
             let there : Ready (pageAt (s .table) (gpaOf s)) = subst (λ (k : ℕ). Ready (pageAt (s .table) k)) e r in
             subst Ready (sym (page-named i h e ∙ ap pageOf (ready-stays (wordOf s) (wordsAt (s .table) (gpaOf s)) g there))) there
 
-    due-step : (i : ℕ) → i < words / 2 → Due (pageAt (s .table) i) → (pageAt (stepped (exportStep g) s .table) i ≡ pageAt (s .table) i) ⊎ Ready (pageAt (stepped (exportStep g) s .table) i)
+    due-step : (i : ℕ) → i < words / 2 → Due (pageAt (s .table) i) →
+        (pageAt (stepped (exportStep g) s .table) i ≡ pageAt (s .table) i) ⊎ Ready (pageAt (stepped (exportStep g) s .table) i)
     due-step i h d = elim (ℕ-discrete i (gpaOf s)) [ yes e ↦ named e | no ne ↦ inl (page-apart i ne) ]
       where
         named : i ≡ gpaOf s → (pageAt (stepped (exportStep g) s .table) i ≡ pageAt (s .table) i) ⊎ Ready (pageAt (stepped (exportStep g) s .table) i)
@@ -101,7 +102,8 @@ module _ (g : Ground) (paused : g .phase ≡ Blackout) (fits : g .epoch < 2 ^ 16
             (due-either (wordOf s) (wordsAt (s .table) (gpaOf s)) g fits (subst (λ (k : ℕ). Due (pageAt (s .table) k)) e d))
 
     -- the entry whose turn it is names the page
-    due-now : (i : ℕ) → i < words / 2 → Names (wordOf s) i → Due (pageAt (s .table) i) → pageAt (s .table) i .migrated < g .epoch → Ready (pageAt (stepped (exportStep g) s .table) i)
+    due-now : (i : ℕ) → i < words / 2 → Names (wordOf s) i → Due (pageAt (s .table) i) → pageAt (s .table) i .migrated < g .epoch →
+        Ready (pageAt (stepped (exportStep g) s .table) i)
     due-now i h names d older =
         let e : i ≡ gpaOf s = sym (names .page) in
         subst Ready (sym (page-named i h e))
@@ -112,7 +114,8 @@ module _ (g : Ground) (paused : g .phase ≡ Blackout) (fits : g .epoch < 2 ^ 16
     abbrev After : ℕ → Type 0
     After i = Ahead (set (s .list) (s .at .next) (taking (exportStep g) s .word)) (s .at .next + 1) to Else i
 
-    waits-step : (i : ℕ) → i < words / 2 → Waits (Ahead (s .list) (s .at .next) to Else i) (g .epoch) (pageAt (s .table) i) → Waits (After i) (g .epoch) (pageAt (stepped (exportStep g) s .table) i)
+    waits-step : (i : ℕ) → i < words / 2 → Waits (Ahead (s .list) (s .at .next) to Else i) (g .epoch) (pageAt (s .table) i) →
+        Waits (After i) (g .epoch) (pageAt (stepped (exportStep g) s .table) i)
     waits-step i h (inl r) = inl (ready-step i h r)
     waits-step i h (inr x) = ⊎-elim here (λ y. later (inr y)) (x .2)
       where
@@ -127,7 +130,13 @@ module _ (g : Ground) (paused : g .phase ≡ Blackout) (fits : g .epoch < 2 ^ 16
         here y =
             elim (ℕ-discrete (y .0) (s .at .next)) [
               | yes e ↦ inl (due-now i h (subst (λ (k : ℕ). Names (getD (s .list) k 0) i) e (y .3)) (x .0) (x .1))
-              | no ne ↦ later (inl (y .0, omega (arith, y .1, ne), y .2, rw (getD-set-other (s .list) (s .at .next) (y .0) (taking (exportStep g) s .word) 0 ne) (y .3)))
+              | no ne ↦ later (inl (
+                y .0,
+                omega (arith, y .1, ne),
+                y .2,
+                rw (getD-set-other (s .list) (s .at .next) (y .0) (taking (exportStep g) s .word) 0 ne)
+                    (y .3),
+              ))
             ]
 
   along-step : (s : Standing) → Along (g .epoch) Else words entries to s → Along (g .epoch) Else words entries to (stepped (exportStep g) s)
@@ -140,13 +149,17 @@ module _ (g : Ground) (paused : g .phase ≡ Blackout) (fits : g .epoch < 2 ^ 16
         waits = λ i h. waits-step s a i h (a .waits i h);
       }
 
-  pub along-run : (last budget : ℕ) (s : Standing) → Along (g .epoch) Else words entries to s → Along (g .epoch) Else words entries to (listRun (exportStep g) last budget s)
+  pub along-run : (last budget : ℕ) (s : Standing) → Along (g .epoch) Else words entries to s →
+      Along (g .epoch) Else words entries to (listRun (exportStep g) last budget s)
   along-run last = run-keeps (Along (g .epoch) Else words entries to) (exportStep g) last (λ s q. along-step s)
 
 -- ---- a whole call
 
 -- one that is accepted begins at the FIRST that it was given
-pub call-along : (s : Session) (t l b : List ℕ) (stream : ℕ) (resume : Bool) (info budget : ℕ) (Else : ℕ → Type 0) (to : ℕ) → s .phase ≡ Blackout → exportCode s (length t) (length l) (length b) stream resume (infoOf info) ≡ 0 → ((i : ℕ) → i < pageCount t → Waits (Ahead l (infoOf info .first) to Else i) (s .epoch) (pageAt t i)) → Along (s .epoch) Else (length t) (length l) to (exported s t l b stream info budget)
+pub call-along : (s : Session) (t l b : List ℕ) (stream : ℕ) (resume : Bool) (info budget : ℕ) (Else : ℕ → Type 0) (to : ℕ) → s .phase ≡ Blackout →
+    exportCode s (length t) (length l) (length b) stream resume (infoOf info) ≡ 0 →
+    ((i : ℕ) → i < pageCount t → Waits (Ahead l (infoOf info .first) to Else i) (s .epoch) (pageAt t i)) →
+    Along (s .epoch) Else (length t) (length l) to (exported s t l b stream info budget)
 unfolding groundOf exportCode
 call-along s t l b stream resume info budget Else to paused e waits =
     let p = gate-open s (length t) moving (exportTests s (length l) (length b) stream resume (infoOf info)) refl e in

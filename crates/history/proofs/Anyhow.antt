@@ -71,22 +71,26 @@ module _ (w : World) (x : Exporting) (words : List ℕ) where
   abbrev Before : ℕ → Type 0
   Before to = Until s t (take (to - infoOf (x .info) .first) (drop (infoOf (x .info) .first) (x .list)) ++ words)
 
-  ran-until : code ≡ 0 → Before (ran .at .next) → (streams : List Stream) → formed (withStreams s streams) (length (ran .table)) ≡ true → Until (withStreams s streams) (ran .table) words
+  ran-until : code ≡ 0 → Before (ran .at .next) → (streams : List Stream) → formed (withStreams s streams) (length (ran .table)) ≡ true →
+      Until (withStreams s streams) (ran .table) words
   ran-until e k streams f =
       let first = infoOf (x .info) .first in
       let to = ran .at .next in
       let along : Along (s .epoch) (Named words) (length t) (length (x .list)) to ran
-      = call-along s t (x .list) (x .buffer) (x .stream) (x .resume) (x .info) (x .budget) (Named words) to (k .phase) e (λ i h. waits-map (s .epoch) (pageAt t i) (named-ahead (x .list) first to words i) (k .pages i h)) in
+      = call-along s t (x .list) (x .buffer) (x .stream) (x .resume) (x .info) (x .budget) (Named words) to (k .phase) e
+      (λ i h. waits-map (s .epoch) (pageAt t i) (named-ahead (x .list) first to words i) (k .pages i h)) in
       record {
         formed = f;
         phase = k .phase;
         complete = k .complete;
-        pages = λ i h. waits-map (s .epoch) (pageAt (ran .table) i) (none-ahead (ran .list) to to (Named words) i (omega arith)) (along .waits i (rw (along .table) at h));
+        pages = λ i h. waits-map (s .epoch) (pageAt (ran .table) i) (none-ahead (ran .list) to to (Named words) i (omega arith))
+            (along .waits i (rw (along .table) at h));
       }
 
   abbrev Then : ExportOutcome → Type 0
   Then o =
-      Before (cameTo (x .info) (exportNumbers (o .answer))) → formed (o .answer .session) (length (o .table)) ≡ true → Until (o .answer .session) (o .table) words
+      Before (cameTo (x .info) (exportNumbers (o .answer))) → formed (o .answer .session) (length (o .table)) ≡ true →
+      Until (o .answer .session) (o .table) words
 
   ran-then : code ≡ 0 → Then (ranExport s (x .stream) (infoOf (x .info)) ran)
   ran-then e k =
@@ -105,19 +109,23 @@ module _ (w : World) (x : Exporting) (words : List ℕ) where
 
 -- ---- all calls
 
-calls-until : (w : World) (xs : List Exporting) → Until (w .session) (w .table) (tookAll w xs) → Until (exportingAll w xs .session) (exportingAll w xs .table) []
+calls-until : (w : World) (xs : List Exporting) → Until (w .session) (w .table) (tookAll w xs) →
+    Until (exportingAll w xs .session) (exportingAll w xs .table) []
 calls-until w [] k = k
 calls-until w (x ∷ xs) k =
     calls-until (after w (exporting x)) xs (call-until w x (tookAll (after w (exporting x)) xs) k)
 
-pub left-anyhow : (w : World) (n : ℕ) (ls : List (List ℕ)) (xs : List Exporting) → Left w n ls → ((l : List ℕ) → List·Memᴰ l ls → (word : ℕ) → List·Memᴰ word l → List·Memᴰ word (tookAll w xs)) → busy (exportingAll w xs .session) ≡ false → granted (exportingAll w xs) ≡ true
+pub left-anyhow : (w : World) (n : ℕ) (ls : List (List ℕ)) (xs : List Exporting) → Left w n ls →
+    ((l : List ℕ) → List·Memᴰ l ls → (word : ℕ) → List·Memᴰ word l → List·Memᴰ word (tookAll w xs)) → busy (exportingAll w xs .session) ≡ false →
+    granted (exportingAll w xs) ≡ true
 left-anyhow w n ls xs k all rest =
     let end = calls-until w xs
     (record {
       formed = k .formed;
       phase = k .phase;
       complete = k .complete;
-      pages = λ i h. waits-map (w .session .epoch) (pageAt (w .table) i) (λ (y : Listed ls i). (y .2 .0, all (y .0) (y .1) (y .2 .0) (y .2 .1), y .2 .2)) (k .pages i h);
+      pages = λ i h. waits-map (w .session .epoch) (pageAt (w .table) i) (λ (y : Listed ls i). (y .2 .0, all (y .0) (y .1) (y .2 .0) (y .2 .1), y .2 .2))
+          (k .pages i h);
     }) in
     rw (granted-exactly .whenever (exportingAll w xs .session) (exportingAll w xs .table) (end .formed)
     (record {

@@ -48,7 +48,8 @@ mid-calm w n c ls m k l =
     let x = sound-ok w (m .sound) k l in
     paused-calm (momentOf (w .session)) (pageAt (w .table) k) (x .0) (m .between .phase) (x .1)
 
-asked-mid : (w : World) (n c : ℕ) (ls : List (List ℕ)) (a : Ask) → Mid w n c ls → Mid (after w (asking a)) n c (ls ++ withList (entriesOf (effectIn w (asking a))) [])
+asked-mid : (w : World) (n c : ℕ) (ls : List (List ℕ)) (a : Ask) → Mid w n c ls →
+    Mid (after w (asking a)) n c (ls ++ withList (entriesOf (effectIn w (asking a))) [])
 asked-mid w n c ls a m =
     record {
       sound = sound-after w (asking a) (m .sound);
@@ -75,10 +76,12 @@ record Enough (d n : ℕ) (a : Ask) : Type 0 where
   most : length (a .list) ≤ mostEntries
   spent : (i : ℕ) → a .budget ≤ i → i < n → d ≤ i
 
-to-end : (d : ℕ) (asks : List Ask) (w : World) (n c : ℕ) (ls : List (List ℕ)) → Mid w n c ls → complete w ≡ false → w .session .check .place < n → ((a : Ask) → List·Memᴰ a asks → Enough d n a) → n ≤ w .session .check .place + length asks * d → complete (checked w asks .world) ≡ true
+to-end : (d : ℕ) (asks : List Ask) (w : World) (n c : ℕ) (ls : List (List ℕ)) → Mid w n c ls → complete w ≡ false → w .session .check .place < n →
+    ((a : Ask) → List·Memᴰ a asks → Enough d n a) → n ≤ w .session .check .place + length asks * d → complete (checked w asks .world) ≡ true
 to-end d [] w n c ls m unfinished inside enough far = absurd (omega (arith, inside, far, zero-mul d))
 to-end d (a ∷ l) w n c ls m unfinished inside enough far =
-    go (dcheck-gets-on (w .session) (w .table) (a .list) (a .budget) (m .formed) (mid-calm w n c ls m) d n c ls (m .between) unfinished (first .most) (first .room) (first .spent))
+    go (dcheck-gets-on (w .session) (w .table) (a .list) (a .budget) (m .formed) (mid-calm w n c ls m) d n c ls (m .between) unfinished (first .most)
+    (first .room) (first .spent))
     (to-end d l v n c (ls ++ withList (entriesOf (effectIn w (asking a))) []) (asked-mid w n c ls a m))
   where
     first : Enough d n a
@@ -87,16 +90,20 @@ to-end d (a ∷ l) w n c ls m unfinished inside enough far =
     v : World
     v = after w (asking a)
 
-    go : GetsOn d (w .session .check .place) n (dcheckOut (w .session) (w .table) (a .list) (a .budget) .answer) → (complete v ≡ false → v .session .check .place < n → ((a : Ask) → List·Memᴰ a l → Enough d n a) → n ≤ v .session .check .place + length l * d → complete (checked v l .world) ≡ true) → complete (checked w (a ∷ l) .world) ≡ true
+    go : GetsOn d (w .session .check .place) n (dcheckOut (w .session) (w .table) (a .list) (a .budget) .answer) →
+        (complete v ≡ false → v .session .check .place < n → ((a : Ask) → List·Memᴰ a l → Enough d n a) → n ≤ v .session .check .place + length l * d →
+        complete (checked v l .world) ≡ true) → complete (checked w (a ∷ l) .world) ≡ true
     go (inl x) rest = rw (x .0) (x .1)
     go (inr x) rest = rw (x .code) (rest (x .incomplete) (x .inside) (λ b k. enough b (List·Memᴰ·tail k)) (omega (arith, far, x .far, suc-mul (length l) d)))
 
 -- and they give at most as many lists as there are parts of d pages
-few-lists : (d : ℕ) (asks : List Ask) (k : ℕ) (w : World) (n c : ℕ) (ls : List (List ℕ)) → Mid w n c ls → complete w ≡ false → w .session .check .place < n → ((a : Ask) → List·Memᴰ a asks → Enough d n a) → n ≤ w .session .check .place + k * d → length (checked w asks .lists) ≤ k
+few-lists : (d : ℕ) (asks : List Ask) (k : ℕ) (w : World) (n c : ℕ) (ls : List (List ℕ)) → Mid w n c ls → complete w ≡ false → w .session .check .place < n →
+    ((a : Ask) → List·Memᴰ a asks → Enough d n a) → n ≤ w .session .check .place + k * d → length (checked w asks .lists) ≤ k
 few-lists d [] k w n c ls m unfinished inside enough far = omega arith
 few-lists d (a ∷ l) zero w n c ls m unfinished inside enough far = absurd (omega (arith, inside, far, zero-mul d))
 few-lists d (a ∷ l) (suc k) w n c ls m unfinished inside enough far =
-    go (dcheck-gets-on (w .session) (w .table) (a .list) (a .budget) (m .formed) (mid-calm w n c ls m) d n c ls (m .between) unfinished (first .most) (first .room) (first .spent))
+    go (dcheck-gets-on (w .session) (w .table) (a .list) (a .budget) (m .formed) (mid-calm w n c ls m) d n c ls (m .between) unfinished (first .most)
+    (first .room) (first .spent))
     (few-lists d l k v n c (ls ++ withList (entriesOf (effectIn w (asking a))) []) (asked-mid w n c ls a m))
   where
     first : Enough d n a
@@ -105,11 +112,18 @@ few-lists d (a ∷ l) (suc k) w n c ls m unfinished inside enough far =
     v : World
     v = after w (asking a)
 
-    go : GetsOn d (w .session .check .place) n (dcheckOut (w .session) (w .table) (a .list) (a .budget) .answer) → (complete v ≡ false → v .session .check .place < n → ((a : Ask) → List·Memᴰ a l → Enough d n a) → n ≤ v .session .check .place + k * d → length (checked v l .lists) ≤ k) → length (checked w (a ∷ l) .lists) ≤ suc k
+    go : GetsOn d (w .session .check .place) n (dcheckOut (w .session) (w .table) (a .list) (a .budget) .answer) →
+        (complete v ≡ false → v .session .check .place < n → ((a : Ask) → List·Memᴰ a l → Enough d n a) → n ≤ v .session .check .place + k * d →
+        length (checked v l .lists) ≤ k) → length (checked w (a ∷ l) .lists) ≤ suc k
     go (inl x) rest = rw (x .0) (omega (arith, with-few (entriesOf (effectIn w (asking a))) []))
     go (inr x) rest =
         rw (x .code)
-        (omega (arith, with-few (entriesOf (effectIn w (asking a))) (checked v l .lists), rest (x .incomplete) (x .inside) (λ b k. enough b (List·Memᴰ·tail k)) (omega (arith, far, x .far, suc-mul k d))))
+        (omega (
+          arith,
+          with-few (entriesOf (effectIn w (asking a))) (checked v l .lists),
+          rest (x .incomplete) (x .inside) (λ b k. enough b (List·Memᴰ·tail k))
+              (omega (arith, far, x .far, suc-mul k d)),
+        ))
 
 -- ---- the reset
 
@@ -120,7 +134,8 @@ Resets s t = onSession Reset s t ≡ outcome 0 (withCheck s unchecked) t
 reset-makes : (s : Session) (t : List ℕ) → formed s (length t) ≡ true → s .phase ≡ Blackout → Resets s t
 reset-makes s t f p = alone-done Reset s t (record { formed = f; comes = rw p; passed = tt })
 
-reset-mid : (w : World) → Sound w → formed (w .session) (length (w .table)) ≡ true → Paused w → Mid (reset w) (w .session .fixed .pages) (w .session .fixed .created) []
+reset-mid : (w : World) → Sound w → formed (w .session) (length (w .table)) ≡ true → Paused w →
+    Mid (reset w) (w .session .fixed .pages) (w .session .fixed .created) []
 unfolding busy
 reset-mid w sound f p =
     record {
@@ -143,12 +158,14 @@ reset-mid w sound f p =
 
 module _ (w : World) (sound : Sound w) (f : formed (w .session) (length (w .table)) ≡ true) (p : Paused w) (asks : List Ask) where
   -- DCHECKs that get on by d pages each come to the end, if there are enough of them
-  enough-end : (d : ℕ) → ((a : Ask) → List·Memᴰ a asks → Enough d (w .session .fixed .pages) a) → w .session .fixed .pages ≤ length asks * d → complete (checked (reset w) asks .world) ≡ true
+  enough-end : (d : ℕ) → ((a : Ask) → List·Memᴰ a asks → Enough d (w .session .fixed .pages) a) → w .session .fixed .pages ≤ length asks * d →
+      complete (checked (reset w) asks .world) ≡ true
   enough-end d enough far =
       let s : Resets (w .session) (w .table) = reset-makes (w .session) (w .table) f (p .phase) in
       let place : reset w .session .check .place ≡ 0 = rw s in
       let some : 1 ≤ w .session .fixed .pages = formed-means (w .session) (length (w .table)) f .pages .low in
-      to-end d asks (reset w) (w .session .fixed .pages) (w .session .fixed .created) [] (reset-mid w sound f p) (rw s) (omega (arith, place, some)) enough (omega (arith, place, far))
+      to-end d asks (reset w) (w .session .fixed .pages) (w .session .fixed .created) [] (reset-mid w sound f p) (rw s) (omega (arith, place, some)) enough
+      (omega (arith, place, far))
 
   pub check-ends : ((a : Ask) → List·Memᴰ a asks → Fair a) → pageCount (w .table) ≤ length asks → complete (checked (reset w) asks .world) ≡ true
   check-ends fair far =
@@ -172,7 +189,8 @@ module _ (w : World) (sound : Sound w) (f : formed (w .session) (length (w .tabl
       let m = formed-means (w .session) (length (w .table)) f in
       let s : Resets (w .session) (w .table) = reset-makes (w .session) (w .table) f (p .phase) in
       let place : reset w .session .check .place ≡ 0 = rw s in
-      few-lists mostEntries asks mostLists (reset w) (w .session .fixed .pages) (w .session .fixed .created) [] (reset-mid w sound f p) (rw s) (omega (arith, place, m .pages .low)) (full-enough full) (omega (arith, place, m .pages .high))
+      few-lists mostEntries asks mostLists (reset w) (w .session .fixed .pages) (w .session .fixed .created) [] (reset-mid w sound f p) (rw s)
+      (omega (arith, place, m .pages .low)) (full-enough full) (omega (arith, place, m .pages .high))
 
   -- whatever their rooms and budgets, they give at most as many entries as there are pages
   check-entries : length (joined (checked (reset w) asks .lists)) ≤ pageCount (w .table)
@@ -196,7 +214,8 @@ Advances s t = onSession NewEpoch s t ≡ outcome 0 (withEpoch s (s .epoch + 1))
 epoch-makes : (s : Session) (t : List ℕ) → formed s (length t) ≡ true → s .phase ≡ Blackout → busy s ≡ false → s .epoch < lastEpoch → Advances s t
 epoch-makes s t f p b l = alone-done NewEpoch s t (record { formed = f; comes = rw p; passed = (b, (lt-leb lastEpoch (s .epoch) l, tt)) })
 
-epoch-left : (w : World) (n c : ℕ) (ls : List (List ℕ)) → Mid w n c ls → length (w .session .streams) ≡ streamPlaces → complete w ≡ true → Left (nextEpoch w) c ls
+epoch-left : (w : World) (n c : ℕ) (ls : List (List ℕ)) → Mid w n c ls → length (w .session .streams) ≡ streamPlaces → complete w ≡ true →
+    Left (nextEpoch w) c ls
 unfolding busy
 epoch-left w n c ls m streams done =
     let g = m .between in
@@ -223,9 +242,12 @@ checked-streams (a ∷ l) w e =
     let v = after w (asking a) in
     let next = streams-after w (asking a) e in
     let rest = checked-streams l v next in
-    either (λ (r : Checked). length (r .world .session .streams) ≡ streamPlaces) (eqb (effectIn w (asking a) .returned .code) codes.checkComplete) (λ z. next) (λ z. rest)
+    either (λ (r : Checked). length (r .world .session .streams) ≡ streamPlaces) (eqb (effectIn w (asking a) .returned .code) codes.checkComplete) (λ z. next)
+    (λ z. rest)
 
-pub check-left : (w : World) → Sound w → formed (w .session) (length (w .table)) ≡ true → length (w .session .streams) ≡ streamPlaces → Paused w → (asks : List Ask) → complete (checked (reset w) asks .world) ≡ true → Left (nextEpoch (checked (reset w) asks .world)) (w .session .fixed .created) (checked (reset w) asks .lists)
+pub check-left : (w : World) → Sound w → formed (w .session) (length (w .table)) ≡ true → length (w .session .streams) ≡ streamPlaces → Paused w →
+    (asks : List Ask) → complete (checked (reset w) asks .world) ≡ true →
+    Left (nextEpoch (checked (reset w) asks .world)) (w .session .fixed .created) (checked (reset w) asks .lists)
 check-left w sound f streams p asks done =
     epoch-left (checked (reset w) asks .world) (w .session .fixed .pages) (w .session .fixed .created) (checked (reset w) asks .lists)
     (checked-mid asks (reset w) (w .session .fixed .pages) (w .session .fixed .created) [] (reset-mid w sound f p))

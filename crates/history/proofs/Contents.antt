@@ -100,7 +100,8 @@ look-content z = goes-each Keeps looks (λ m. refl, (λ m. refl, tt)) z (λ m. r
 listed-content : (clock : Clock) (p : Page) → content (listedPage clock p) ≡ content p
 unfolding renewed
 listed-content clock p =
-    either (λ (q : Page). content q ≡ content p) (isIn (goesBy looks (p .state)) renewedStates) (λ e. look-content (p .state) (p .mark)) (λ e. look-content (p .state) (p .mark))
+    either (λ (q : Page). content q ≡ content p) (isIn (goesBy looks (p .state)) renewedStates) (λ e. look-content (p .state) (p .mark))
+    (λ e. look-content (p .state) (p .mark))
 
 export-content : (z : State) → Keeps z (goesBy exports z)
 unfolding isIn
@@ -122,7 +123,8 @@ taken-content word w g r =
 pub zero-page : (n i : ℕ) → pageAt (replicate n 0) i ≡ record { state = Free; dirty = false; cached = false; stamp = 0; migrated = 0; mark = 0 }
 unfolding wordsAt pageOf recordOf plain stateOf
 zero-page n i =
-    either (λ (w : PageWords). pageOf w ≡ record { state = Free; dirty = false; cached = false; stamp = 0; migrated = 0; mark = 0 }) (ltb i (pageCount (replicate n 0)))
+    either (λ (w : PageWords). pageOf w ≡ record { state = Free; dirty = false; cached = false; stamp = 0; migrated = 0; mark = 0 })
+    (ltb i (pageCount (replicate n 0)))
     (λ q.
     let inside : i < pageCount (replicate n 0) = ltb-true _ _ q in
     let whole : length (replicate n 0) ≡ n = length-replicate {A = ℕ} n 0 in
@@ -140,17 +142,21 @@ swept-content k t i = go (ltb i (pageCount t)) refl
     go true q = ap content (page-swept (sweptBy k) (swept-held k) t i (ltb-true _ _ q)) ∙ sweep-content k (pageAt t i)
     go false q = ap (λ (w : PageWords). content (pageOf w)) (sweep-past (onWords (sweptBy k)) t i (ltb-false _ _ q))
 
-pub range-content : (count : ℕ) (scan : Scan) (t l : List ℕ) → scan .clock .tlb < 2 ^ 16 → 2 * scan .first + 2 * count ≤ length t → (i : ℕ) → content (pageAt (rangeRun count scan t l .part) i) ≡ content (pageAt t i)
+pub range-content : (count : ℕ) (scan : Scan) (t l : List ℕ) → scan .clock .tlb < 2 ^ 16 → 2 * scan .first + 2 * count ≤ length t → (i : ℕ) →
+    content (pageAt (rangeRun count scan t l .part) i) ≡ content (pageAt t i)
 range-content count scan t l r fits i =
     ⊎-elim
     (λ same. ap (λ (w : PageWords). content (pageOf w)) same)
-    (λ seen. ap (λ (w : PageWords). content (pageOf w)) (seen .1) ∙ ap content (look-page (wordsAt t i) i (scan .clock) r) ∙ listed-content (scan .clock) (pageAt t i))
+    (λ seen. ap (λ (w : PageWords). content (pageOf w)) (seen .1) ∙ ap content (look-page (wordsAt t i) i (scan .clock) r)
+    ∙ listed-content (scan .clock) (pageAt t i))
     (range-page count scan t l fits i)
 
 -- an entry keeps what a page holds, and so does a run
-pub export-run-content : (g : Ground) (last budget : ℕ) (x : Standing) → g .epoch < 2 ^ 16 → (i : ℕ) → content (pageAt (listRun (exportStep g) last budget x .table) i) ≡ content (pageAt (x .table) i)
+pub export-run-content : (g : Ground) (last budget : ℕ) (x : Standing) → g .epoch < 2 ^ 16 → (i : ℕ) →
+    content (pageAt (listRun (exportStep g) last budget x .table) i) ≡ content (pageAt (x .table) i)
 export-run-content g last budget x r i =
-    run-each (λ (w : PageWords). content (pageOf w) ≡ content (pageAt (x .table) i)) (exportStep g) (λ word held w e. taken-content word w g r ∙ e) last budget x i refl
+    run-each (λ (w : PageWords). content (pageOf w) ≡ content (pageAt (x .table) i)) (exportStep g)
+    (λ word held w e. taken-content word w g r ∙ e) last budget x i refl
 
 -- ---- a call on one page
 

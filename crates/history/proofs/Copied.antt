@@ -1,4 +1,5 @@
--- From a pause to the grant the guest's memory is the copy that the pause took: the calls that change it are refused in Blackout and in Done, and only a pause and the
+-- From a pause to the grant the guest's memory is the copy that the pause took: the calls that change it are refused in Blackout and in Done, and only a pause
+-- and the
 -- token lead there.
 use mathlib.Core.Path.{_≡_, refl, sym, subst}
 use mathlib.Core.Bool.{Bool, true, cond, false≢true}
@@ -57,20 +58,25 @@ guest-runs Blackout e x = false≢true e
 guest-runs Done e x = false≢true e
 
 -- neither is noted anew
-uncopied : (e : Effect) (m c : ℕ → Holding) → Copied (e .returned .session .phase) m c → Copied (e .returned .session .phase) (cond (accepted e) m m) (cond (accepted e) c c)
+uncopied : (e : Effect) (m c : ℕ → Holding) → Copied (e .returned .session .phase) m c →
+    Copied (e .returned .session .phase) (cond (accepted e) m m) (cond (accepted e) c c)
 uncopied e m c h =
     either (λ (n : ℕ → Holding). Copied (e .returned .session .phase) n (cond (accepted e) c c)) (accepted e) (λ q. rw q h) (λ q. rw q h)
 
 -- by answers: memory and copy as they come with one that is done, and as they were with a refusal
 module _ (code : ℕ) (s : Session) (t : List ℕ) (s' : Session) (t' : List ℕ) (m m' c c' : ℕ → Holding) where
-  answered-copied : Copied (s .phase) m c → (eqb (answered code s t s' t' .answer .code) 0 ≡ true → Copied (s' .phase) m' c') → Copied (answered code s t s' t' .answer .session .phase) (cond (eqb (answered code s t s' t' .answer .code) 0) m' m) (cond (eqb (answered code s t s' t' .answer .code) 0) c' c)
+  answered-copied : Copied (s .phase) m c → (eqb (answered code s t s' t' .answer .code) 0 ≡ true → Copied (s' .phase) m' c') →
+      Copied (answered code s t s' t' .answer .session .phase) (cond (eqb (answered code s t s' t' .answer .code) 0) m' m)
+      (cond (eqb (answered code s t s' t' .answer .code) 0) c' c)
   answered-copied h =
-      answered-either (λ (o : Outcome). (eqb (o .answer .code) 0 ≡ true → Copied (s' .phase) m' c') → Copied (o .answer .session .phase) (cond (eqb (o .answer .code) 0) m' m) (cond (eqb (o .answer .code) 0) c' c)) code s t s' t'
+      answered-either (λ (o : Outcome). (eqb (o .answer .code) 0 ≡ true → Copied (s' .phase) m' c') →
+      Copied (o .answer .session .phase) (cond (eqb (o .answer .code) 0) m' m) (cond (eqb (o .answer .code) 0) c' c)) code s t s' t'
       (λ q f. rw q (f q))
       (λ q f. rw q h)
 
 -- a call on a page is refused while the guest does not run
-page-copied : (k : Move) (s : Session) (t : List ℕ) (at : ℕ) (m m' c : ℕ → Holding) → Copied (s .phase) m c → Copied (onPage k s t at .answer .session .phase) (cond (eqb (onPage k s t at .answer .code) 0) m' m) (cond (eqb (onPage k s t at .answer .code) 0) c c)
+page-copied : (k : Move) (s : Session) (t : List ℕ) (at : ℕ) (m m' c : ℕ → Holding) → Copied (s .phase) m c →
+    Copied (onPage k s t at .answer .session .phase) (cond (eqb (onPage k s t at .answer .code) 0) m' m) (cond (eqb (onPage k s t at .answer .code) 0) c c)
 unfolding onPage
 page-copied k s t at m m' c h =
     answered-copied _ s t s _ m m' c c h (λ e x. absurd (guest-runs (s .phase) (call-done k s t at e .comes) x))
@@ -100,7 +106,8 @@ dcheck-phase s t l budget =
     (λ z. rw (answer-session (dchecked s t l budget .scanned) (checkedBy s (dchecked s t l budget .scanned))))
     refl
 
-export-phase : (s : Session) (t l b : List ℕ) (stream : ℕ) (resume : Bool) (info budget : ℕ) → exportOut s t l b stream resume info budget .answer .session .phase ≡ s .phase
+export-phase : (s : Session) (t l b : List ℕ) (stream : ℕ) (resume : Bool) (info budget : ℕ) →
+    exportOut s t l b stream resume info budget .answer .session .phase ≡ s .phase
 export-phase s t l b stream resume info budget =
     export-either (λ (o : ExportOutcome). o .answer .session .phase ≡ s .phase) s t l b stream resume info budget
     (finished-streams (λ (x : Session). x .phase ≡ s .phase) s stream (infoOf info) (exported s t l b stream info budget .at) (λ streams. refl))
@@ -129,7 +136,8 @@ module _ (w : World) (l b : List ℕ) (h : Copied (w .session .phase) (w .memory
   call-copied : (c : Call) → Copied (after w (given c l b) .session .phase) (after w (given c l b) .memory) (after w (given c l b) .copy)
   unfolding newOut onAll onSession
   call-copied (New created) =
-      answered-copied (newCode (length t) created) s t (newSession (pageCount t) created) (replicate (length t) 0) (w .memory) nothing (w .copy) (w .copy) h (λ e x. absurd x)
+      answered-copied (newCode (length t) created) s t (newSession (pageCount t) created) (replicate (length t) 0) (w .memory) nothing (w .copy) (w .copy) h
+      (λ e x. absurd x)
   call-copied (OnPage page m) = page-copied m s t page (w .memory) (rememberedBy (OnPage page m) (w .memory)) (w .copy) h
   call-copied (OnAll k) =
       answered-copied (sweepCode k s t) s t (sweepNext k s) (sweepOf (onWords (sweptBy k)) t)
@@ -145,6 +153,7 @@ module _ (w : World) (l b : List ℕ) (h : Copied (w .session .phase) (w .memory
   call-copied (Export stream resume info budget) =
       uncopied (left (Export stream resume info budget)) (w .memory) (w .copy) (rw (export-phase s t l b stream resume info budget) h)
 
-pub run-copied : (l : List Given) (w : World) → Copied (w .session .phase) (w .memory) (w .copy) → Copied (run w l .session .phase) (run w l .memory) (run w l .copy)
+pub run-copied : (l : List Given) (w : World) → Copied (w .session .phase) (w .memory) (w .copy) →
+    Copied (run w l .session .phase) (run w l .memory) (run w l .copy)
 run-copied [] w h = h
 run-copied (g ∷ l) w h = run-copied l (after w g) (call-copied w (g .list) (g .buffer) h (g .call))

@@ -58,11 +58,13 @@ named-listed [] i x = absurd (List·Memᴰ·not-nil (x .1))
 named-listed (w ∷ l) i x = (w ∷ l, List·Memᴰ·head refl, x)
 
 -- a DCHECK that ran gives the words that it wrote
-ran-entries : (s : Session) (o : ScanOut) → within codes.interrupted codes.checkComplete (o .scanned .code) ≡ true → entriesOf (scanEffect (ranScan s o) []) ≡ take (o .scanned .put) (o .list)
+ran-entries : (s : Session) (o : ScanOut) → within codes.interrupted codes.checkComplete (o .scanned .code) ≡ true →
+    entriesOf (scanEffect (ranScan s o) []) ≡ take (o .scanned .put) (o .list)
 unfolding answerOf
 ran-entries s o e =
     either
-    (λ (a : ScanAnswer). cond (within codes.interrupted codes.checkComplete (a .code)) (take (suc (a .last) - a .first) (drop (a .first) (o .list))) [] ≡ take (o .scanned .put) (o .list))
+    (λ (a : ScanAnswer). cond (within codes.interrupted codes.checkComplete (a .code)) (take (suc (a .last) - a .first) (drop (a .first) (o .list))) [] ≡ take
+    (o .scanned .put) (o .list))
     (eqb (o .scanned .put) 0)
     (λ z. rw (e, eqb-true (o .scanned .put) 0 z))
     (λ z.
@@ -78,7 +80,8 @@ refused-entries s t l =
     (first-all (λ (n : ℕ). not (within codes.interrupted codes.checkComplete n)) (gateTests s (length t) (Blackout ∷ []) (dcheckTests s (length l))) refl refl))
 
 -- the codes of a DCHECK that ran
-ending-codes : (budget space code i n : ℕ) → Ending budget space code i n → (within codes.interrupted codes.checkComplete code ≡ true) × (eqb code codes.memScanFailedBlockedRange ≡ false)
+ending-codes : (budget space code i n : ℕ) → Ending budget space code i n →
+    (within codes.interrupted codes.checkComplete code ≡ true) × (eqb code codes.memScanFailedBlockedRange ≡ false)
 ending-codes budget space code i n (inl x) = rw (x .code) (refl, refl)
 ending-codes budget space code i n (inr (inl x)) = rw (x .code) (refl, refl)
 ending-codes budget space code i n (inr (inr x)) = rw (x .code) (refl, refl)
@@ -106,10 +109,12 @@ module _ (s : Session) (t l : List ℕ) (budget : ℕ) (f : formed s (length t) 
   swept : dcheckCode s (length t) (length l) ≡ 0 → Swept (dcheckOf s budget) count t l ran
   swept z =
       let m = formed-means s (length t) f in
-      range-swept count (dcheckOf s budget) t l (dcheck-fits s (length t) (length l) z .1 .0) refl (tlb-fits s (length t) f) (omega (arith, m .place, m .pages .high)) calm
+      range-swept count (dcheckOf s budget) t l (dcheck-fits s (length t) (length l) z .1 .0) refl (tlb-fits s (length t) f)
+      (omega (arith, m .place, m .pages .high)) calm
 
   -- what a DCHECK passed is added to what stood below the place
-  ran-passed : (n c : ℕ) (ls : List (List ℕ)) → Between s t n c ls → Swept (dcheckOf s budget) count t l ran → (i : ℕ) → i < ran .scanned .next → ReadyOrListed (ran .part) (ls ++ withList (take (ran .scanned .put) (ran .list)) []) i
+  ran-passed : (n c : ℕ) (ls : List (List ℕ)) → Between s t n c ls → Swept (dcheckOf s budget) count t l ran → (i : ℕ) → i < ran .scanned .next →
+      ReadyOrListed (ran .part) (ls ++ withList (take (ran .scanned .put) (ran .list)) []) i
   ran-passed n c ls g w i h = go (decLt i (s .check .place))
     where
       new : List (List ℕ)
@@ -124,12 +129,14 @@ module _ (s : Session) (t l : List ℕ) (budget : ℕ) (f : formed s (length t) 
           inr (x .0, (m .0, Memᴰ·append-right ls (m .1), m .2)))
           (w .passed i (omega (arith, b)) (omega (arith, h, w .next)))
 
-  ran-lists : (ls : List (List ℕ)) → ((m : List ℕ) → List·Memᴰ m ls → Short m) → dcheckCode s (length t) (length l) ≡ 0 → (m : List ℕ) → List·Memᴰ m (ls ++ withList (take (ran .scanned .put) (ran .list)) []) → Short m
+  ran-lists : (ls : List (List ℕ)) → ((m : List ℕ) → List·Memᴰ m ls → Short m) → dcheckCode s (length t) (length l) ≡ 0 → (m : List ℕ) →
+      List·Memᴰ m (ls ++ withList (take (ran .scanned .put) (ran .list)) []) → Short m
   unfolding dcheckCode
   ran-lists ls old z m k =
       let w = swept z in
       let room : length l ≤ mostEntries = ltb-false _ _ (gate-open s (length t) (Blackout ∷ []) (dcheckTests s (length l)) refl z .passed .0) in
-      let short : length (take (ran .scanned .put) (ran .list)) ≤ mostEntries = rw (length-take (ran .scanned .put) (ran .list)) (omega (arith, room, w .long)) in
+      let short : length (take (ran .scanned .put) (ran .list)) ≤ mostEntries =
+      rw (length-take (ran .scanned .put) (ran .list)) (omega (arith, room, w .long)) in
       ⊎-elim
       (λ x. old m x)
       (λ x. with-short (take (ran .scanned .put) (ran .list)) [] short (λ o n. absurd (List·Memᴰ·not-nil n)) m x)
@@ -142,7 +149,9 @@ module _ (s : Session) (t l : List ℕ) (budget : ℕ) (f : formed s (length t) 
       let new = take (ran .scanned .put) (ran .list) in
       rw (joined-with ls new, length-append (joined ls) new, length-take (ran .scanned .put) (ran .list)) (omega (arith, w .few, w .next))
 
-  pub dcheck-between : (n c : ℕ) (ls : List (List ℕ)) → Between s t n c ls → Between (dcheckOut s t l budget .answer .session) (dcheckOut s t l budget .table) n c (ls ++ withList (entriesOf (scanEffect (dcheckOut s t l budget) [])) [])
+  pub dcheck-between : (n c : ℕ) (ls : List (List ℕ)) → Between s t n c ls →
+      Between (dcheckOut s t l budget .answer .session) (dcheckOut s t l budget .table) n c
+      (ls ++ withList (entriesOf (scanEffect (dcheckOut s t l budget) [])) [])
   unfolding checkedBy busy
   dcheck-between n c ls g =
       dcheck-either s t l budget (λ (o : ScanOutcome). Between (o .answer .session) (o .table) n c (ls ++ withList (entriesOf (scanEffect o [])) []))
@@ -168,11 +177,13 @@ module _ (s : Session) (t l : List ℕ) (budget : ℕ) (f : formed s (length t) 
   dcheck-runs z = rw z
 
   -- where it was not complete, and the list and the budget are enough for d pages
-  pub dcheck-gets-on : (d n c : ℕ) (ls : List (List ℕ)) → Between s t n c ls → s .check .complete ≡ false → length l ≤ mostEntries → d ≤ length l → ((i : ℕ) → budget ≤ i → i < n → d ≤ i) → GetsOn d (s .check .place) n (dcheckOut s t l budget .answer)
+  pub dcheck-gets-on : (d n c : ℕ) (ls : List (List ℕ)) → Between s t n c ls → s .check .complete ≡ false → length l ≤ mostEntries → d ≤ length l →
+      ((i : ℕ) → budget ≤ i → i < n → d ≤ i) → GetsOn d (s .check .place) n (dcheckOut s t l budget .answer)
   unfolding checkedBy dcheckCode
   dcheck-gets-on d n c ls g unfinished most room spent =
       let z : dcheckCode s (length t) (length l) ≡ 0
-      = open-gate s (length t) (Blackout ∷ []) (dcheckTests s (length l)) (record { formed = f; comes = rw (g .phase); passed = (le-ltb mostEntries (length l) most, (rw (unfinished, g .unfailed), tt)) }) in
+      = open-gate s (length t) (Blackout ∷ []) (dcheckTests s (length l))
+      (record { formed = f; comes = rw (g .phase); passed = (le-ltb mostEntries (length l) most, (rw (unfinished, g .unfailed), tt)) }) in
       let w = swept z in
       rw (dcheck-runs z) (go w (w .how))
     where
@@ -182,7 +193,8 @@ module _ (s : Session) (t l : List ℕ) (budget : ℕ) (f : formed s (length t) 
       place : s .check .place ≤ s .fixed .pages
       place = formed-means s (length t) f .place
 
-      further : (w : Swept (dcheckOf s budget) count t l ran) → eqb (ran .scanned .code) codes.checkComplete ≡ false → d ≤ w .at → w .at < count → Further d (s .check .place) n made
+      further : (w : Swept (dcheckOf s budget) count t l ran) → eqb (ran .scanned .code) codes.checkComplete ≡ false → d ≤ w .at → w .at < count →
+          Further d (s .check .place) n made
       further w e far inside =
           record {
             code = rw (answer-code (ran .scanned) (checkedBy s (ran .scanned))) e;
@@ -192,6 +204,10 @@ module _ (s : Session) (t l : List ℕ) (budget : ℕ) (f : formed s (length t) 
           }
 
       go : (w : Swept (dcheckOf s budget) count t l ran) → Ending budget (length l) (ran .scanned .code) (w .at) count → GetsOn d (s .check .place) n made
-      go w (inl x) = inl (rw (answer-code (ran .scanned) (checkedBy s (ran .scanned)), x .code), rw (answer-session (ran .scanned) (checkedBy s (ran .scanned)), x .code))
+      go w (inl x) = inl (
+        rw (answer-code (ran .scanned) (checkedBy s (ran .scanned)), x .code),
+        rw
+            (answer-session (ran .scanned) (checkedBy s (ran .scanned)), x .code),
+      )
       go w (inr (inl x)) = inr (further w (rw (x .code)) (spent (w .at) (x .spent) (omega (arith, x .place, g .pages))) (x .place))
       go w (inr (inr x)) = inr (further w (rw (x .code)) (omega (arith, x .full, room)) (x .place))

@@ -23,15 +23,20 @@ use Rattle.history.proofs.Anyhow.{left-anyhow}
 use Rattle.history.proofs.Lists.{left-anew, left-granted}
 
 -- what the check leaves to be exported
-left : (h : History) → Paused (atEnd h) → (asks : List Ask) → complete (check (atEnd h) asks .world) ≡ true → Left (prepared (atEnd h) asks) (atEnd h .session .fixed .created) (check (atEnd h) asks .lists)
+left : (h : History) → Paused (atEnd h) → (asks : List Ask) → complete (check (atEnd h) asks .world) ≡ true →
+    Left (prepared (atEnd h) asks) (atEnd h .session .fixed .created) (check (atEnd h) asks .lists)
 left h p asks c = check-left (atEnd h) (sound-end h) (stays-formed .formed h) (streams-end h) p asks c
 
-lists-earn : (h : History) → Paused (atEnd h) → (asks : List Ask) → complete (check (atEnd h) asks .world) ≡ true → (xs : List Sending) → Plan (atEnd h) (check (atEnd h) asks .lists) xs → granted (sendingAll (prepared (atEnd h) asks) xs) ≡ true
+lists-earn : (h : History) → Paused (atEnd h) → (asks : List Ask) → complete (check (atEnd h) asks .world) ≡ true → (xs : List Sending) →
+    Plan (atEnd h) (check (atEnd h) asks .lists) xs → granted (sendingAll (prepared (atEnd h) asks) xs) ≡ true
 lists-earn h p asks c xs plan =
     left-granted (atEnd h) (prepared (atEnd h) asks) (check (atEnd h) asks .lists) xs (left h p asks c) (plan .same) (plan .whole)
 
-exports-earn : (h : History) → Paused (atEnd h) → (asks : List Ask) → complete (check (atEnd h) asks .world) ≡ true → (xs : List Exporting) → TookEvery (prepared (atEnd h) asks) (check (atEnd h) asks .lists) xs → busy (exportingAll (prepared (atEnd h) asks) xs .session) ≡ false → granted (exportingAll (prepared (atEnd h) asks) xs) ≡ true
-exports-earn h p asks c xs all rest = left-anyhow (prepared (atEnd h) asks) (atEnd h .session .fixed .created) (check (atEnd h) asks .lists) xs (left h p asks c) all rest
+exports-earn : (h : History) → Paused (atEnd h) → (asks : List Ask) → complete (check (atEnd h) asks .world) ≡ true → (xs : List Exporting) →
+    TookEvery (prepared (atEnd h) asks) (check (atEnd h) asks .lists) xs → busy (exportingAll (prepared (atEnd h) asks) xs .session) ≡ false →
+    granted (exportingAll (prepared (atEnd h) asks) xs) ≡ true
+exports-earn h p asks c xs all rest = left-anyhow (prepared (atEnd h) asks) (atEnd h .session .fixed .created) (check
+    (atEnd h) asks .lists) xs (left h p asks c) all rest
 
 -- ---- always
 
@@ -78,7 +83,8 @@ anew-earns h p asks c =
     let ls = check (atEnd h) asks .lists in
     let w = prepared (atEnd h) asks in
     let plan = once-plan h (cutAnew ls) in
-    left-granted (atEnd h) w (cutAnew ls) (map atOnce (cutAnew ls)) (left-anew w (atEnd h .session .fixed .created) ls (left h p asks c)) (plan .same) (plan .whole)
+    left-granted (atEnd h) w (cutAnew ls) (map atOnce (cutAnew ls)) (left-anew w (atEnd h .session .fixed .created) ls (left h p asks c)) (plan .same)
+    (plan .whole)
 
 pub earned : Earned
 earned =

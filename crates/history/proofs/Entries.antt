@@ -71,18 +71,28 @@ makes z d c mark =
     z
 
 -- where the tests of Dirty and stamp are passed, no processor has a translation left
-quiet : (phase : Phase) → among moving phase ≡ true → (clock : Clock) (stamp : ℕ) (d c b : Bool) → (among (Live ∷ []) phase && not (tracked stamp clock)) ≡ false → d ≡ false → Seen clock d c stamp → Still phase c b → c ≡ false
+quiet : (phase : Phase) → among moving phase ≡ true → (clock : Clock) (stamp : ℕ) (d c b : Bool) →
+    (among (Live ∷ []) phase && not (tracked stamp clock)) ≡ false → d ≡ false → Seen clock d c stamp → Still phase c b → c ≡ false
 quiet Idle m clock stamp d c b x y s u = absurd (false≢true m)
 quiet Live m clock stamp d c b x y s u = s (not-false (tracked stamp clock) x) y
 quiet Blackout m clock stamp d c b x y s u = u .0
 quiet Done m clock stamp d c b x y s u = absurd (false≢true m)
 
-pub entry-sends : (g : Ground) (e : Entry) (p : Page) → among moving (g .phase) ≡ true → statusOf e p g ≡ 0 → Sends (momentOn g) p (exportedPage (g .epoch) p) (sentAs (p .state)) (sentTo (p .state) (p .mark))
+pub entry-sends : (g : Ground) (e : Entry) (p : Page) → among moving (g .phase) ≡ true → statusOf e p g ≡ 0 →
+    Sends (momentOn g) p (exportedPage (g .epoch) p) (sentAs (p .state)) (sentTo (p .state) (p .mark))
 unfolding statusOf
 entry-sends g e p v x =
     record {
       fits = λ h o. m .fits h (o .there);
-      ok = λ h o. record { known = m .known; young = omega arith; there = m .there; same = m .same (λ n. calm n o); seen = o .seen; still = rw (m .blocked) (o .still) };
+      ok = λ h o. record {
+        known = m .known;
+        young = omega arith;
+        there = m .there;
+        same = m .same (λ n. calm n o);
+        seen = o .seen;
+        still =
+            rw (m .blocked) (o .still);
+      };
       older = λ h o. let n : p .migrated ≡ g .epoch → ⊥ = eqb-false (p .migrated) (g .epoch) (t .new) in omega (arith, n, o .young);
       now = refl;
     }

@@ -2,7 +2,8 @@
 use mathlib.Core.Path.{_≡_, refl, sym, subst}
 use mathlib.Core.Bool.{Bool, true, _&&_}
 use mathlib.Core.Logic.{⊎-elim}
-use mathlib.Core.List.{List, [], _∷_, List·Memᴰ, List·Memᴰ·head, List·Memᴰ·tail, List·Memᴰ·not-nil, List·Memᴰ·cases-cons, List·Memᴰ·eq-of-singleton, List·Permᴰ·swap, Permᴰ·refl}
+use mathlib.Core.List.{List, [], _∷_, List·Memᴰ, List·Memᴰ·head, List·Memᴰ·tail, List·Memᴰ·not-nil, List·Memᴰ·cases-cons, List·Memᴰ·eq-of-singleton}
+use mathlib.Core.List.{List·Permᴰ·swap, Permᴰ·refl}
 use Prim.Native.Nat.{ℕ, _≤_}
 use lib.Dec.{leb, lit<, lit≤}
 use borrow.Author.Tests.{leb-true}
@@ -55,7 +56,11 @@ rising-means [] e = tt
 rising-means (x ∷ l) e = (from-means (x .epoch) l (and-left (from (x .epoch) l) (rising l) e), rising-means l (and-right (from (x .epoch) l) (rising l) e))
 
 pub met : Met
-unfolding recordOf recordWord plain entryOf entryWord infoOf infoWord stateOf isStrange isIn hasMove goesBy numberIn pageOf onWords tracked gives53 gives54 writable keptStamp legal wordsAt putAt some workOf withWork busy formed gated answered newCode newOut onPage sweepCode onAll aloneCode onSession tokenCode inTheWay tokenFor tokenOut listed listedWord renewed lookOf stopCode endCode scanRun rangeRun answerOf checkedBy withinTable dscanCode dscanOut dcheckCode dcheckOut invalid unexportable statusOf answerWord sentEntry failedEntry takenOf counted stepped exportCode groundOf macPages finishedBy exportOut listRun infoBack
+unfolding recordOf recordWord plain entryOf entryWord infoOf infoWord stateOf isStrange isIn hasMove goesBy numberIn pageOf onWords tracked gives53 gives54
+    writable keptStamp legal wordsAt putAt some workOf withWork busy formed gated answered newCode newOut onPage sweepCode onAll aloneCode onSession tokenCode
+    inTheWay tokenFor tokenOut listed listedWord renewed lookOf stopCode endCode scanRun rangeRun answerOf checkedBy withinTable dscanCode dscanOut dcheckCode
+    dcheckOut invalid unexportable statusOf answerWord sentEntry failedEntry takenOf counted stepped exportCode groundOf macPages finishedBy exportOut listRun
+    infoBack
 met =
     record {
       new = refl;
@@ -68,7 +73,11 @@ met =
       full = alike (Full 4) _ (record { room = refl; budget = lit≤ tt }) mostLists;
       eight = refl;
       ended = refl;
-      plan = record { same = Permᴰ·refl _; whole = alike (Whole (atEnd (moved refl toPause))) _ (record { usable = lit< tt; buffer = refl; hpa = lit< tt; budgets = lit≤ tt }) 1 };
+      plan = record {
+        same = Permᴰ·refl _;
+        whole =
+            alike (Whole (atEnd (moved refl toPause))) _ (record { usable = lit< tt; buffer = refl; hpa = lit< tt; budgets = lit≤ tt }) 1;
+      };
       earned = refl;
       taken = λ l m word k.
           ⊎-elim

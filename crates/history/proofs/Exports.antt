@@ -1,4 +1,5 @@
--- An export: along its run the log grows by exactly the entries that succeed, as the words and the buffer that come back tell them; and how far it came is told by
+-- An export: along its run the log grows by exactly the entries that succeed, as the words and the buffer that come back tell them; and how far it came is told
+-- by
 -- its answer.
 use mathlib.Core.Path.{_≡_, refl, sym, ap, _∙_}
 use mathlib.Core.Bool.{Bool, true, false, _&&_, true≢false}
@@ -29,7 +30,8 @@ use Rattle.lists.specs.List.{isOver, infoBack}
 use Rattle.lists.specs.declared.runs.Progress.{Progress}
 use Rattle.lists.proofs.Laws.{run-keeps, run-bounds, back-next}
 use Rattle.lists.proofs.Moves.{step-length}
-use Rattle.export.specs.Export.{noResumption, noNewCall, notFrom0, exportTests, exportCode, groundOf, exportStep, begunBy, finishedBy, ExportOutcome, ranExport, exportOut}
+use Rattle.export.specs.Export.{noResumption, noNewCall, notFrom0, exportTests, exportCode, groundOf, exportStep, begunBy, finishedBy, ExportOutcome, ranExport}
+use Rattle.export.specs.Export.{exportOut}
 use Rattle.export.specs.declared.ExportAnswer.{ExportAnswer}
 use Rattle.export.proofs.Laws.{export-ready}
 use Rattle.export.proofs.Moves.{exported}
@@ -50,7 +52,8 @@ sent-set epoch l b at w v first (suc n) h =
     rw (getD-set-other l at (first + n) w 0 other, getD-set-other b at (first + n) v 0 other, sent-set epoch l b at w v first n (omega arith))
 
 -- the entries of a step: those before, and the one of its word
-sent-step : (epoch : ℕ) (l b : List ℕ) (at w v first : ℕ) → first ≤ at → at < length l → at < length b → sentFrom epoch (set l at w) (set b at v) first (at + 1 - first) ≡ sentFrom epoch l b first (at - first) ++ sentBy epoch w v
+sent-step : (epoch : ℕ) (l b : List ℕ) (at w v first : ℕ) → first ≤ at → at < length l → at < length b →
+    sentFrom epoch (set l at w) (set b at v) first (at + 1 - first) ≡ sentFrom epoch l b first (at - first) ++ sentBy epoch w v
 sent-step epoch l b at w v first h hl hb =
     let more : at + 1 - first ≡ suc (at - first) = omega arith in
     let here : first + (at - first) ≡ at = omega arith in
@@ -74,7 +77,8 @@ module _ (g : Ground) (moves : among moving (g .phase) ≡ true) (small : g .epo
       let so : List Sent = log ++ sentFrom (g .epoch) (s .list) (s .buffer) first (s .at .next - first) in
       let more = one-more g s moves small (a .size) so (a .orderly) (a .fine) in
       let l : s .at .next < length (s .list) = omega (arith, h, a .long) in
-      let logs : sentFrom (g .epoch) (stepped (exportStep g) s .list) (stepped (exportStep g) s .buffer) first (s .at .next + 1 - first) ≡ sentFrom (g .epoch) (s .list) (s .buffer) first (s .at .next - first) ++ adds g s
+      let logs : sentFrom (g .epoch) (stepped (exportStep g) s .list) (stepped (exportStep g) s .buffer) first (s .at .next + 1 - first) ≡ sentFrom (g .epoch)
+      (s .list) (s .buffer) first (s .at .next - first) ++ adds g s
       = sent-step (g .epoch) (s .list) (s .buffer) (s .at .next) (x .word) (x .buffer) first (a .from) l (rw (a .same) l) in
       record {
         orderly = rw (logs, ← append-assoc) (more .0);
@@ -91,7 +95,8 @@ module _ (g : Ground) (moves : among moving (g .phase) ≡ true) (small : g .epo
 -- ---- how far an export came
 
 -- a call that is not refused begins at the FIRST that it was given
-pub begins : (s : Session) (len entries room stream : ℕ) (resume : Bool) (x : Info) → exportCode s len entries room stream resume x ≡ 0 → begunBy (workOf s stream) .next ≡ x .first
+pub begins : (s : Session) (len entries room stream : ℕ) (resume : Bool) (x : Info) → exportCode s len entries room stream resume x ≡ 0 →
+    begunBy (workOf s stream) .next ≡ x .first
 unfolding exportCode
 begins s len entries room stream resume x e =
     let p = gate-open s len moving (exportTests s entries room stream resume x) refl e .passed in
@@ -112,7 +117,8 @@ info-back info next before low =
     (info-word (withFirst (infoOf info) next) (record { format = f .format; first = low; hpa = f .hpa; zero52 = f .zero52; last = f .last }))
 
 -- the entry that a run came to, as its answer tells it
-came : (s : Session) (stream info : ℕ) (at : Progress) → at .next ≤ infoOf info .last + 1 → infoOf info .last ≤ lastEntry → cameTo info (exportNumbers (finishedBy s stream (infoOf info) at)) ≡ at .next
+came : (s : Session) (stream info : ℕ) (at : Progress) → at .next ≤ infoOf info .last + 1 → infoOf info .last ≤ lastEntry →
+    cameTo info (exportNumbers (finishedBy s stream (infoOf info) at)) ≡ at .next
 unfolding finishedBy
 came s stream info at h short =
     either (λ (a : ExportAnswer). cameTo info (exportNumbers a) ≡ at .next) (isOver (infoOf info) (at .next))
@@ -121,14 +127,18 @@ came s stream info at h short =
     let before : at .next ≤ infoOf info .last = ltb-false (infoOf info .last) (at .next) q in
     ap (λ (x : Info). x .first) (info-back info (at .next) before (omega (arith, short))))
 
-pub ran-came : (s : Session) (t l b : List ℕ) (stream : ℕ) (resume : Bool) (info budget : ℕ) → exportCode s (length t) (length l) (length b) stream resume (infoOf info) ≡ 0 → cameTo info (exportNumbers (finishedBy s stream (infoOf info) (exported s t l b stream info budget .at))) ≡ exported s t l b stream info budget .at .next
+pub ran-came : (s : Session) (t l b : List ℕ) (stream : ℕ) (resume : Bool) (info budget : ℕ) →
+    exportCode s (length t) (length l) (length b) stream resume (infoOf info) ≡ 0 →
+    cameTo info (exportNumbers (finishedBy s stream (infoOf info) (exported s t l b stream info budget .at))) ≡ exported s t l b stream info budget .at .next
 ran-came s t l b stream resume info budget e =
     let ready = export-ready s (length t) (length l) (length b) stream resume (infoOf info) e in
-    let bounds = run-bounds (exportStep (groundOf s)) (infoOf info .last) budget (standing (begunBy (workOf s stream)) t l b) (record { next = omega (arith, ready .ordered); counts = ready .counts }) in
+    let bounds = run-bounds (exportStep (groundOf s)) (infoOf info .last) budget (standing
+    (begunBy (workOf s stream)) t l b) (record { next = omega (arith, ready .ordered); counts = ready .counts }) in
     came s stream info (exported s t l b stream info budget .at) (bounds .next) (ready .short)
 
 -- a refusal took none
-pub none-came : (info code : ℕ) (s : Session) → eqb code 0 ≡ false → cameTo info (exportNumbers (record { code = code; info = 0; errors = 0; buffers = 0; session = s })) - infoOf info .first ≡ 0
+pub none-came : (info code : ℕ) (s : Session) → eqb code 0 ≡ false →
+    cameTo info (exportNumbers (record { code = code; info = 0; errors = 0; buffers = 0; session = s })) - infoOf info .first ≡ 0
 unfolding infoOf
 none-came info code s e =
     rw e (either (λ (n : ℕ). n - infoOf info .first ≡ 0) (eqb code 1) (λ q. omega arith) (λ q. omega arith))
@@ -139,7 +149,8 @@ run-streams : (P : Session → Type 0) (s : Session) (stream : ℕ) (run : Work)
 unfolding withWork
 run-streams P s stream run p = either P (ltb stream streamPlaces) (λ e. p _) (λ e. p (s .streams))
 
-pub finished-streams : (P : Session → Type 0) (s : Session) (stream : ℕ) (x : Info) (at : Progress) → ((l : List Stream) → P (withStreams s l)) → P (finishedBy s stream x at .session)
+pub finished-streams : (P : Session → Type 0) (s : Session) (stream : ℕ) (x : Info) (at : Progress) → ((l : List Stream) → P (withStreams s l)) →
+    P (finishedBy s stream x at .session)
 unfolding finishedBy
 finished-streams P s stream x at p =
     either (λ (a : ExportAnswer). P (a .session)) (isOver x (at .next)) (λ e. run-streams P s stream _ p) (λ e. run-streams P s stream _ p)
@@ -158,7 +169,8 @@ module _ (w : World) (l b : List ℕ) (stream : ℕ) (resume : Bool) (info budge
   abbrev ran : Standing
   ran = exported s t l b stream info budget
 
-  ran-logging : exportCode s (length t) (length l) (length b) stream resume (infoOf info) ≡ 0 → Logging (groundOf s) (w .log) (infoOf info .first) (infoOf info .last) ran
+  ran-logging : exportCode s (length t) (length l) (length b) stream resume (infoOf info) ≡ 0 →
+      Logging (groundOf s) (w .log) (infoOf info .first) (infoOf info .last) ran
   unfolding groundOf exportCode
   ran-logging e =
       let p = gate-open s (length t) moving (exportTests s (length l) (length b) stream resume (infoOf info)) refl e in
@@ -167,7 +179,8 @@ module _ (w : World) (l b : List ℕ) (stream : ℕ) (resume : Bool) (info budge
       let ready = export-ready s (length t) (length l) (length b) stream resume (infoOf info) e in
       let at : begunBy (workOf s stream) .next ≡ infoOf info .first = begins s (length t) (length l) (length b) stream resume (infoOf info) e in
       let none : infoOf info .first - infoOf info .first ≡ 0 = omega arith in
-      logging-run (groundOf s) (p .comes) (epoch-fits s (length t) (p .formed) (p .comes)) (w .log) (infoOf info .first) (infoOf info .last) budget (standing (begunBy (workOf s stream)) t l b)
+      logging-run (groundOf s) (p .comes) (epoch-fits s (length t) (p .formed) (p .comes)) (w .log) (infoOf info .first) (infoOf info .last) budget
+      (standing (begunBy (workOf s stream)) t l b)
       (record {
         orderly = rw (at, none, append-nil) o;
         fine = rw (at, none, append-nil) (rw (since-begun (s .phase) (w .log) moves) at f);
@@ -186,7 +199,8 @@ module _ (w : World) (l b : List ℕ) (stream : ℕ) (resume : Bool) (info budge
       let more : List Sent = w .log ++ sentFrom (s .epoch) (ran .list) (ran .buffer) (infoOf info .first) (ran .at .next - infoOf info .first) in
       rw (ran-came s t l b stream resume info budget e) (
         a .orderly,
-        finished-streams (λ (s' : Session). Stands s' (ran .table) more) s stream (infoOf info) (ran .at) (λ streams. rw (since-begun (s .phase) more moves) (a .fine)),
+        finished-streams (λ (s' : Session). Stands s' (ran .table) more) s stream (infoOf info) (ran .at)
+            (λ streams. rw (since-begun (s .phase) more moves) (a .fine)),
       )
 
   pub export-logged : Logged (exportOut s t l b stream resume info budget)

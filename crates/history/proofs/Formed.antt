@@ -53,7 +53,8 @@ module _ (s : Session) (t : List ℕ) (f : formed s (length t) ≡ true) where
   abbrev means : Formed s (length t)
   means = formed-means s (length t) f
 
-  answered-formed : (code : ℕ) (s' : Session) (t' : List ℕ) → (code ≡ 0 → Formed s' (length t)) → length t' ≡ length t → formed (answered code s t s' t' .answer .session) (length (answered code s t s' t' .table)) ≡ true
+  answered-formed : (code : ℕ) (s' : Session) (t' : List ℕ) → (code ≡ 0 → Formed s' (length t)) → length t' ≡ length t →
+      formed (answered code s t s' t' .answer .session) (length (answered code s t s' t' .table)) ≡ true
   answered-formed code s' t' made size =
       answered-either (λ (o : Outcome). formed (o .answer .session) (length (o .table)) ≡ true) code s t s' t'
       (λ e. rw size (means-formed s' (length t) (made (eqb-true _ _ e))))
@@ -85,7 +86,8 @@ module _ (s : Session) (t : List ℕ) (f : formed s (length t) ≡ true) where
   call-formed : (l b : List ℕ) (c : Call) → formed (effectOf c s t l b .returned .session) (length (effectOf c s t l b .table)) ≡ true
   unfolding newOut checkedBy exportOut
   call-formed l b (New created) =
-      answered-formed (newCode (length t) created) (newSession (pageCount t) created) (replicate (length t) 0) (new-made (length t) created) (length-replicate (length t) 0)
+      answered-formed (newCode (length t) created) (newSession (pageCount t) created) (replicate (length t) 0) (new-made (length t) created)
+      (length-replicate (length t) 0)
   call-formed l b (OnPage page m) = page-formed m page
   call-formed l b (OnAll k) = all-formed k
   call-formed l b (OnSession k) = session-formed k
@@ -98,12 +100,14 @@ module _ (s : Session) (t : List ℕ) (f : formed s (length t) ≡ true) where
       dcheck-either s t l budget (λ (o : ScanOutcome). formed (o .answer .session) (length (o .table)) ≡ true)
       (λ e.
       let g = dchecked s t l budget .scanned in
-      rw (range-length (s .fixed .pages - s .check .place) (dcheckOf s budget) t l, answer-session g (checkedBy s g)) (means-formed (checkedBy s g) (length t) (check-made s t l budget e)))
+      rw (range-length (s .fixed .pages - s .check .place) (dcheckOf s budget) t l, answer-session g (checkedBy s g))
+      (means-formed (checkedBy s g) (length t) (check-made s t l budget e)))
       f
   call-formed l b (Export stream resume info budget) =
       let x = infoOf info in
       let ran = exported s t l b stream info budget in
-      either (λ (o : ExportOutcome). formed (o .answer .session) (length (o .table)) ≡ true) (eqb (exportCode s (length t) (length l) (length b) stream resume x) 0)
+      either (λ (o : ExportOutcome). formed (o .answer .session) (length (o .table)) ≡ true)
+      (eqb (exportCode s (length t) (length l) (length b) stream resume x) 0)
       (λ e.
       rw (run-promises .lengths (exportStep (groundOf s)) (x .last) budget (standing (begunBy (workOf s stream)) t l b) .0)
       (means-formed (finishedBy s stream x (ran .at) .session) (length t) (export-made s t l b stream resume info budget (eqb-true _ _ e))))
@@ -115,7 +119,8 @@ formed-after w g f = call-formed (w .session) (w .table) f (g .list) (g .buffer)
 -- ---- the streams of every call
 
 module _ (s : Session) (t : List ℕ) (n : length (s .streams) ≡ streamPlaces) where
-  answered-streams : (code : ℕ) (s' : Session) (t' : List ℕ) → length (s' .streams) ≡ streamPlaces → length (answered code s t s' t' .answer .session .streams) ≡ streamPlaces
+  answered-streams : (code : ℕ) (s' : Session) (t' : List ℕ) → length (s' .streams) ≡ streamPlaces →
+      length (answered code s t s' t' .answer .session .streams) ≡ streamPlaces
   answered-streams code s' t' made =
       answered-either (λ (o : Outcome). length (o .answer .session .streams) ≡ streamPlaces) code s t s' t' (λ e. made) (λ e. n)
 
@@ -129,12 +134,14 @@ module _ (s : Session) (t : List ℕ) (n : length (s .streams) ≡ streamPlaces)
 
   run-streams : (i : ℕ) (r : Work) → length (withWork s i r .streams) ≡ streamPlaces
   unfolding withWork
-  run-streams i r = either (λ (s' : Session). length (s' .streams) ≡ streamPlaces) (ltb i streamPlaces) (λ e. length-set (s .streams) i (record { work = r }) ∙ n) (λ e. n)
+  run-streams i r = either (λ (s' : Session). length (s' .streams) ≡ streamPlaces) (ltb i streamPlaces) (λ e. length-set (s .streams) i (record { work = r })
+      ∙ n) (λ e. n)
 
   export-streams : (stream : ℕ) (x : Info) (at : Progress) → length (finishedBy s stream x at .session .streams) ≡ streamPlaces
   unfolding finishedBy
   export-streams stream x at =
-      either (λ (a : ExportAnswer). length (a .session .streams) ≡ streamPlaces) (isOver x (at .next)) (λ e. run-streams stream AtRest) (λ e. run-streams stream (Interrupted (at .next) (x .last) (at .errors) (at .filled)))
+      either (λ (a : ExportAnswer). length (a .session .streams) ≡ streamPlaces) (isOver x (at .next)) (λ e. run-streams stream AtRest)
+      (λ e. run-streams stream (Interrupted (at .next) (x .last) (at .errors) (at .filled)))
 
   call-streams : (l b : List ℕ) (c : Call) → length (effectOf c s t l b .returned .session .streams) ≡ streamPlaces
   unfolding newOut onAll onSession checkedBy
@@ -163,12 +170,18 @@ streams-after w g n = call-streams (w .session) (w .table) n (g .list) (g .buffe
 -- ---- histories
 
 -- what a history begins with, New being accepted
-new-begins : (s : Session) (t : List ℕ) (created : ℕ) → accepted (newEffect s t created) ≡ true → (formed (newWorld s t created .session) (length (newWorld s t created .table)) ≡ true) × (length (newWorld s t created .session .streams) ≡ streamPlaces)
+new-begins : (s : Session) (t : List ℕ) (created : ℕ) → accepted (newEffect s t created) ≡ true →
+    (formed (newWorld s t created .session) (length (newWorld s t created .table)) ≡ true) × (length (newWorld s t created .session .streams) ≡ streamPlaces)
 unfolding newOut
 new-begins s t created =
-    answered-either (λ (o : Outcome). eqb (o .answer .code) 0 ≡ true → (formed (o .answer .session) (length (o .table)) ≡ true) × (length (o .answer .session .streams) ≡ streamPlaces))
+    answered-either (λ (o : Outcome). eqb (o .answer .code) 0 ≡ true →
+    (formed (o .answer .session) (length (o .table)) ≡ true) × (length (o .answer .session .streams) ≡ streamPlaces))
     (newCode (length t) created) s t (newSession (pageCount t) created) (replicate (length t) 0)
-    (λ e a. (ap (formed (newSession (pageCount t) created)) (length-replicate (length t) 0) ∙ means-formed (newSession (pageCount t) created) (length t) (new-made (length t) created (eqb-true _ _ e)), refl))
+    (λ e a. (
+      ap (formed (newSession (pageCount t) created)) (length-replicate (length t) 0)
+          ∙ means-formed (newSession (pageCount t) created) (length t) (new-made (length t) created (eqb-true _ _ e)),
+      refl,
+    ))
     (λ e a. absurd (true≢false (sym a ∙ e)))
 
 formed-run : (l : List Given) (w : World) → formed (w .session) (length (w .table)) ≡ true → formed (run w l .session) (length (run w l .table)) ≡ true

@@ -93,17 +93,20 @@ module _ (u w : World) (x : Sending) (rest : List (List ℕ)) (whole : Whole u x
 
   left-sending : Left (sending w x) (u .session .fixed .created) rest
   left-sending =
-      exported-left (u .session .fixed .created) (x .stream) (length (x .list)) rest (whole .usable) (short .most) (λ l m. k .lists l (List·Memᴰ·tail m)) (x .budgets) w false (firstInfo x) (x .list) (x .buffer) 0 begins (omega (arith, whole .budgets))
+      exported-left (u .session .fixed .created) (x .stream) (length (x .list)) rest (whole .usable) (short .most) (λ l m. k .lists l (List·Memᴰ·tail m))
+      (x .budgets) w false (firstInfo x) (x .list) (x .buffer) 0 begins (omega (arith, whole .budgets))
 
 -- ---- all lists
 
-left-all : (u w : World) (xs : List Sending) → ((x : Sending) → List·Memᴰ x xs → Whole u x) → Left w (u .session .fixed .created) (map (λ (x : Sending). x .list) xs) → Left (sendingAll w xs) (u .session .fixed .created) []
+left-all : (u w : World) (xs : List Sending) → ((x : Sending) → List·Memᴰ x xs → Whole u x) →
+    Left w (u .session .fixed .created) (map (λ (x : Sending). x .list) xs) → Left (sendingAll w xs) (u .session .fixed .created) []
 left-all u w [] whole k = k
 left-all u w (x ∷ xs) whole k =
     left-all u (sending w x) xs (λ y m. whole y (List·Memᴰ·tail m)) (left-sending u w x (map (λ (x : Sending). x .list) xs) (whole x (List·Memᴰ·head refl)) k)
 
 -- `u` is a world with the streams that were created, as the one in which the check began
-pub left-granted : (u w : World) (ls : List (List ℕ)) (xs : List Sending) → Left w (u .session .fixed .created) ls → List·Permᴰ ls (map (λ (x : Sending). x .list) xs) → ((x : Sending) → List·Memᴰ x xs → Whole u x) → granted (sendingAll w xs) ≡ true
+pub left-granted : (u w : World) (ls : List (List ℕ)) (xs : List Sending) → Left w (u .session .fixed .created) ls →
+    List·Permᴰ ls (map (λ (x : Sending). x .list) xs) → ((x : Sending) → List·Memᴰ x xs → Whole u x) → granted (sendingAll w xs) ≡ true
 left-granted u w ls xs k p whole =
     let end = left-all u w xs whole (left-same w (u .session .fixed .created) ls (map (λ (x : Sending). x .list) xs) p k) in
     left-anyhow (sendingAll w xs) (u .session .fixed .created) [] [] end (λ l m. absurd (List·Memᴰ·not-nil m)) (end .rest)

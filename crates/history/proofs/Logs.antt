@@ -64,12 +64,25 @@ fine-steps {log = log} {t = t} {t' = t'} a s f =
 abbrev told : Entry → Bool → ℕ → ℕ → Entry
 told e pending operation status = withStatus (withOperation (withL2Map (withState (withPending e pending) 0) 0) operation) status
 
-told-word : (w : ℕ) (pending : Bool) (operation status : ℕ) → operation < 2 ^ 2 → status < 2 ^ 5 → entryOf (answerWord (entryOf w) pending operation status) ≡ told (entryOf w) pending operation status
+told-word : (w : ℕ) (pending : Bool) (operation status : ℕ) → operation < 2 ^ 2 → status < 2 ^ 5 →
+    entryOf (answerWord (entryOf w) pending operation status) ≡ told (entryOf w) pending operation status
 unfolding answerWord
 told-word w pending operation status a b =
     let f = entry-fits w in
     entry-word (told (entryOf w) pending operation status)
-    (record { level = f .level; state = lit< tt; reserved5 = f .reserved5; «l2_map» = lit< tt; «mig_type» = f .«mig_type»; gpa = f .gpa; operation = a; reserved54 = f .reserved54; status = b; reserved61 = f .reserved61 })
+    (record {
+      level = f .level;
+      state = lit< tt;
+      reserved5 = f .reserved5;
+      «l2_map» = lit< tt;
+      «mig_type» = f .«mig_type»;
+      gpa = f .gpa;
+      operation =
+          a;
+      reserved54 = f .reserved54;
+      status = b;
+      reserved61 = f .reserved61;
+    })
 
 status-lt : (e : Entry) (p : Page) (g : Ground) → statusOf e p g < 2 ^ 5
 unfolding statusOf
@@ -88,7 +101,14 @@ module _ (g : Ground) (s : Standing) where
   -- what a success sends
   abbrev sends : Sent
   sends =
-      record { epoch = g .epoch; page = gpaOf s; operation = sentAs (page .state); pending = isIn (page .state) pendingStates; contents = cond (isIn (page .state) dataStates) (page .mark) 0 }
+      record {
+        epoch = g .epoch;
+        page = gpaOf s;
+        operation = sentAs (page .state);
+        pending = isIn (page .state) pendingStates;
+        contents =
+            cond (isIn (page .state) dataStates) (page .mark) 0;
+      }
 
   abbrev pub adds : List Sent
   adds = sentBy (g .epoch) (taking (exportStep g) s .word) (taking (exportStep g) s .buffer)
@@ -98,7 +118,12 @@ module _ (g : Ground) (s : Standing) where
   sent-adds e =
       let x = status-success (entryOf (wordOf s)) page g e in
       let operation = numberIn operated (page .state) in
-      rw (e, told-word (wordOf s) (isIn (page .state) pendingStates) operation 0 (operation-lt (page .state)) (lit< tt), exported-has page (x .able) (x .clean) .operates)
+      rw (
+        e,
+        told-word (wordOf s) (isIn (page .state) pendingStates) operation 0 (operation-lt (page .state)) (lit< tt),
+        exported-has page (x .able)
+            (x .clean) .operates,
+      )
 
   left-adds : eqb (statusOf (entryOf (wordOf s)) page g) 0 ≡ false → adds ≡ []
   unfolding takenOf failedEntry
@@ -112,8 +137,10 @@ module _ (g : Ground) (s : Standing) where
       go true q = rw (eqb-true i (gpaOf s) q) (step-failed g s (λ z. eqb-false _ _ e (sym (taken-status (wordOf s) (wordsAt (s .table) (gpaOf s)) g) ∙ z)))
       go false q = step-other (exportStep g) s i (eqb-false _ _ q)
 
-  module _ (moves : among moving (g .phase) ≡ true) (small : g .epoch < 2 ^ 16) (size : g .pages ≡ pageCount (s .table)) (log : List Sent) (o : Orderly log) (f : Fine (momentOn g) log (s .table)) where
-    sent-more : statusOf (entryOf (wordOf s)) page g ≡ 0 → Orderly (log ++ (sends ∷ [])) × Fine (momentOn g) (log ++ (sends ∷ [])) (stepped (exportStep g) s .table)
+  module _ (moves : among moving (g .phase) ≡ true) (small : g .epoch < 2 ^ 16) (size : g .pages ≡ pageCount (s .table)) (log : List Sent) (o : Orderly log)
+      (f : Fine (momentOn g) log (s .table)) where
+    sent-more : statusOf (entryOf (wordOf s)) page g ≡ 0 →
+        Orderly (log ++ (sends ∷ [])) × Fine (momentOn g) (log ++ (sends ∷ [])) (stepped (exportStep g) s .table)
     sent-more e = (
       record {
         rising = rising-more log sends (o .rising) (f .past);
@@ -121,9 +148,11 @@ module _ (g : Ground) (s : Standing) where
         lawful = lawful-more log sends _ (old .has) (old .past) older (n .fits (old .has) (old .ok)) (f .past) (o .lawful);
       },
       record {
-        rows = rows-sent (momentOn g) log sends (s .table) (stepped (exportStep g) s .table) _ (step-length (exportStep g) s) l refl (step-page g s small l (taken-status (wordOf s) (wordsAt (s .table) (gpaOf s)) g ∙ e)) (step-other (exportStep g) s) n (f .rows);
+        rows = rows-sent (momentOn g) log sends (s .table) (stepped (exportStep g) s .table) _ (step-length (exportStep g) s) l refl
+            (step-page g s small l (taken-status (wordOf s) (wordsAt (s .table) (gpaOf s)) g ∙ e)) (step-other (exportStep g) s) n (f .rows);
         past = λ y m. ⊎-elim (λ u. f .past y u) (λ u. omega (arith, ap (λ (v : Sent). v .epoch) (List·Memᴰ·eq-of-singleton u))) (List·Memᴰ·append-cases log m);
-        inside = λ y m. rw (step-length (exportStep g) s) (⊎-elim (λ u. f .inside y u) (λ u. omega (arith, l, ap (λ (v : Sent). v .page) (List·Memᴰ·eq-of-singleton u))) (List·Memᴰ·append-cases log m));
+        inside = λ y m. rw (step-length (exportStep g) s)
+            (⊎-elim (λ u. f .inside y u) (λ u. omega (arith, l, ap (λ (v : Sent). v .page) (List·Memᴰ·eq-of-singleton u))) (List·Memᴰ·append-cases log m));
       },
     )
       where
@@ -142,6 +171,11 @@ module _ (g : Ground) (s : Standing) where
     pub one-more : Orderly (log ++ adds) × Fine (momentOn g) (log ++ adds) (stepped (exportStep g) s .table)
     one-more = go (eqb (statusOf (entryOf (wordOf s)) page g) 0) refl
       where
-        go : (b : Bool) → eqb (statusOf (entryOf (wordOf s)) page g) 0 ≡ b → Orderly (log ++ adds) × Fine (momentOn g) (log ++ adds) (stepped (exportStep g) s .table)
+        go : (b : Bool) → eqb (statusOf (entryOf (wordOf s)) page g) 0 ≡ b →
+            Orderly (log ++ adds) × Fine (momentOn g) (log ++ adds) (stepped (exportStep g) s .table)
         go true q = rw (sent-adds (eqb-true _ _ q)) (sent-more (eqb-true _ _ q))
-        go false q = rw (left-adds q, append-nil) (o, fine-steps (omega arith) (record { size = step-length (exportStep g) s; at = λ i h. rw (left-words q i) (stay (momentOn g) (pageAt (s .table) i)) }) f)
+        go false q = rw (left-adds q, append-nil) (
+          o,
+          fine-steps (omega arith)
+              (record { size = step-length (exportStep g) s; at = λ i h. rw (left-words q i) (stay (momentOn g) (pageAt (s .table) i)) }) f,
+        )

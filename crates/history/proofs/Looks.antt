@@ -60,7 +60,8 @@ abbrev dueListed : Bool → State → Bool
 dueListed d z =
     let to = goesBy looks z in
     let dirty = dirtyThen d z in
-    not (isStrange to || isIn to barredStates || (isIn to sentStates && not dirty)) && (not (not (isIn to cancelledStates) && dirty) && not (isIn to blockedStates))
+    not (isStrange to || isIn to barredStates || (isIn to sentStates && not dirty))
+    && (not (not (isIn to cancelledStates) && dirty) && not (isIn to blockedStates))
 
 calm-due : (d : Bool) (z : State) → calmListed d z ≡ true → dueListed d z ≡ true
 unfolding isIn isStrange goesBy stateOf
@@ -87,7 +88,8 @@ listed-due p clock c e =
     let y = and-right (not able) _ x in
     record {
       able = rw (listed-state clock p, listed-dirty clock p) (not-true able (and-left (not able) _ x));
-      clean = rw (listed-state clock p, listed-dirty clock p) (not-true _ (and-left (not (not (isIn to cancelledStates) && dirty)) (not (isIn to blockedStates)) y));
+      clean = rw (listed-state clock p, listed-dirty clock p)
+          (not-true _ (and-left (not (not (isIn to cancelledStates) && dirty)) (not (isIn to blockedStates)) y));
       unblocked = rw (listed-state clock p) (not-true _ (and-right (not (not (isIn to cancelledStates) && dirty)) (not (isIn to blockedStates)) y));
     }
 

@@ -1,4 +1,5 @@
--- The guest's memory, noted from the calls on it, is what the table says of each page, call by call: one that is done makes of the page what is noted of it, one
+-- The guest's memory, noted from the calls on it, is what the table says of each page, call by call: one that is done makes of the page what is noted of it,
+-- one
 -- that is refused changes nothing, and the other calls keep what every page holds. With `Copied`, it is the copy of the last pause where the token is granted.
 use mathlib.Core.Path.{_≡_, refl, sym, ap, _∙_}
 use mathlib.Core.Bool.{Bool, true, false, cond, true≢false}
@@ -52,9 +53,11 @@ unnoted e m h = either (λ (n : ℕ → Holding). Holds (e .table) n) (accepted 
 
 -- what was noted for a call that is done; a refused one leaves table and note
 module _ (code : ℕ) (s : Session) (t : List ℕ) (s' : Session) (t' : List ℕ) (m n : ℕ → Holding) where
-  answered-holds : Holds t m → (eqb (answered code s t s' t' .answer .code) 0 ≡ true → Holds (answered code s t s' t' .table) n) → Holds (answered code s t s' t' .table) (cond (eqb (answered code s t s' t' .answer .code) 0) n m)
+  answered-holds : Holds t m → (eqb (answered code s t s' t' .answer .code) 0 ≡ true → Holds (answered code s t s' t' .table) n) →
+      Holds (answered code s t s' t' .table) (cond (eqb (answered code s t s' t' .answer .code) 0) n m)
   answered-holds h =
-      answered-either (λ (o : Outcome). (eqb (o .answer .code) 0 ≡ true → Holds (o .table) n) → Holds (o .table) (cond (eqb (o .answer .code) 0) n m)) code s t s' t'
+      answered-either (λ (o : Outcome). (eqb (o .answer .code) 0 ≡ true → Holds (o .table) n) →
+      Holds (o .table) (cond (eqb (o .answer .code) 0) n m)) code s t s' t'
       (λ q f. rw q (f q))
       (λ q f. rw q h)
 
@@ -82,7 +85,8 @@ all-holds k s t m h = all-either (λ (o : Outcome). Holds (o .table) m) k s t (�
 new-holds : (s : Session) (t : List ℕ) (created : ℕ) → eqb (newOut s t created .answer .code) 0 ≡ true → Holds (newOut s t created .table) nothing
 unfolding newOut
 new-holds s t created =
-    answered-either (λ (o : Outcome). eqb (o .answer .code) 0 ≡ true → Holds (o .table) nothing) (newCode (length t) created) s t (newSession (pageCount t) created) (replicate (length t) 0)
+    answered-either (λ (o : Outcome). eqb (o .answer .code) 0 ≡ true → Holds (o .table) nothing) (newCode (length t) created) s t
+    (newSession (pageCount t) created) (replicate (length t) 0)
     (λ q e. new-content (length t))
     (λ q e. absurd (true≢false (sym e ∙ q)))
 
@@ -104,7 +108,8 @@ dcheck-holds s t l budget m h =
     range-content (s .fixed .pages - s .check .place) (dcheckOf s budget) t l (tlb-fits s (length t) f) (dcheck-fits s (length t) (length l) z .1 .0) i ∙ h i)
     h
 
-export-holds : (s : Session) (t l b : List ℕ) (stream : ℕ) (resume : Bool) (info budget : ℕ) (m : ℕ → Holding) → Holds t m → Holds (exportOut s t l b stream resume info budget .table) m
+export-holds : (s : Session) (t l b : List ℕ) (stream : ℕ) (resume : Bool) (info budget : ℕ) (m : ℕ → Holding) → Holds t m →
+    Holds (exportOut s t l b stream resume info budget .table) m
 unfolding exportOut exportCode groundOf
 export-holds s t l b stream resume info budget m h =
     let x = infoOf info in
@@ -136,7 +141,8 @@ module _ (w : World) (l b : List ℕ) (h : Holds (w .table) (w .memory)) where
   call-holds StartToken = unnoted (left StartToken) (w .memory) h
   call-holds (Dscan first count budget) = unnoted (left (Dscan first count budget)) (w .memory) (dscan-holds s t l first count budget (w .memory) h)
   call-holds (Dcheck budget) = unnoted (left (Dcheck budget)) (w .memory) (dcheck-holds s t l budget (w .memory) h)
-  call-holds (Export stream resume info budget) = unnoted (left (Export stream resume info budget)) (w .memory) (export-holds s t l b stream resume info budget (w .memory) h)
+  call-holds (Export stream resume info budget) =
+      unnoted (left (Export stream resume info budget)) (w .memory) (export-holds s t l b stream resume info budget (w .memory) h)
 
 run-holds : (l : List Given) (w : World) → Holds (w .table) (w .memory) → Holds (run w l .table) (run w l .memory)
 run-holds [] w h = h

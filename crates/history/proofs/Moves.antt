@@ -19,7 +19,8 @@ use Rattle.session.specs.declared.Phase.{Phase}
 use Rattle.session.specs.declared.Phase.the-variants.{Idle, Live, Blackout, Done}
 use Rattle.scan.specs.Look.{renewed, listedPage}
 use Rattle.bundle.specs.Bundle.{Holding}
-use Rattle.history.proofs.Pages.{Moment, There, isExported, isPendingExported, Same, Seen, Still, Ok, Step, stay, there-as, same-free, if-false, if-map, seen-zero, seen-now}
+use Rattle.history.proofs.Pages.{Moment, There, isExported, isPendingExported, Same, Seen, Still, Ok, Step, stay, there-as, same-free, if-false, if-map}
+use Rattle.history.proofs.Pages.{seen-zero, seen-now}
 
 -- ---- changes of state
 
@@ -47,7 +48,8 @@ asks z to e =
     record {
       known = not-true (isStrange to) (and-left (not (isStrange to)) _ e);
       there = there-as z to (alike-same _ _ (and-left (alike (isIn to startableStates) (isIn z startableStates)) _ x));
-      same = same-free to (not-true _ (and-left (not (isExported to)) (not (isPendingExported to)) y)) (not-true _ (and-right (not (isExported to)) (not (isPendingExported to)) y));
+      same = same-free to (not-true _ (and-left (not (isExported to)) (not (isPendingExported to)) y))
+          (not-true _ (and-right (not (isExported to)) (not (isPendingExported to)) y));
     }
 
 each-asks : (l : List Change) → eachPasses asksTest l ≡ true → (z : State) → not (hasMove l z) ≡ false → Asks z (goesBy l z)
@@ -78,7 +80,8 @@ write-pending p w = go (isPendingExported (p .state)) refl
   where
     go : (b : Bool) → isPendingExported (p .state) ≡ b → b ≡ false
     go true e =
-        absurd (no-landing (isIn (p .state) writableStates) (isIn (p .state) landingStates) (p .cached) (every-if isPendingExported (λ (z : State). not (isIn z writableStates || isIn z landingStates)) tt (p .state) e) w)
+        absurd (no-landing (isIn (p .state) writableStates) (isIn (p .state) landingStates) (p .cached)
+        (every-if isPendingExported (λ (z : State). not (isIn z writableStates || isIn z landingStates)) tt (p .state) e) w)
     go false e = refl
 
 -- one that is not seen landed through an old translation
@@ -86,7 +89,8 @@ landed : (a b c : Bool) → a ≡ false → (a || (b && c)) ≡ true → c ≡ t
 landed true b c x y = absurd (true≢false x)
 landed false b c x y = and-right b c y
 
-write-seen : (clock : Clock) (p : Page) → writable p ≡ true → Seen clock (p .dirty) (p .cached) (p .stamp) → Seen clock (p .dirty || (isIn (p .state) writableStates && not (p .cached))) true (p .stamp)
+write-seen : (clock : Clock) (p : Page) → writable p ≡ true → Seen clock (p .dirty) (p .cached) (p .stamp) →
+    Seen clock (p .dirty || (isIn (p .state) writableStates && not (p .cached))) true (p .stamp)
 unfolding writable
 write-seen clock p w s a x = go (isIn (p .state) writableStates) refl x
   where
@@ -107,7 +111,15 @@ module _ (k : Moment) (g : among guest (k .phase) ≡ true) (p : Page) where
   settles : (q : Page) → Asks (p .state) (q .state) → q .migrated ≡ p .migrated → Seen (k .clock) (q .dirty) (q .cached) (q .stamp) → Step k k p q
   settles q a e s =
       record {
-        ok = λ h o. record { known = a .known; young = rw e (o .young); there = a .there h (o .there); same = a .same (q .dirty) (q .cached) (q .mark) h; seen = s; still = still-guest (k .phase) g (q .cached) (blocked q) };
+        ok = λ h o. record {
+          known = a .known;
+          young = rw e (o .young);
+          there = a .there h (o .there);
+          same = a .same (q .dirty) (q .cached) (q .mark) h;
+          seen =
+              s;
+          still = still-guest (k .phase) g (q .cached) (blocked q);
+        };
         kept = e;
       }
 
@@ -119,7 +131,8 @@ module _ (k : Moment) (g : among guest (k .phase) ≡ true) (p : Page) where
           young = o .young;
           there = o .there;
           same = (
-            if-map (isExported (p .state)) (λ e f y. absurd (wrote (p .dirty) (p .cached) (isIn (p .state) writableStates) (exported-writable (p .state) e) (λ x. f x .0) y)) (o .same .0),
+            if-map (isExported (p .state)) (λ e f y. absurd
+                (wrote (p .dirty) (p .cached) (isIn (p .state) writableStates) (exported-writable (p .state) e) (λ x. f x .0) y)) (o .same .0),
             if-false _ (isPendingExported (p .state)) (write-pending p w),
           );
           seen = write-seen (k .clock) p w (o .seen);
@@ -133,8 +146,10 @@ module _ (k : Moment) (g : among guest (k .phase) ≡ true) (p : Page) where
   move-step (Write mark) d = write-step mark (not-false (writable p) (d .0))
   move-step Add d = settles (emptied p (goesBy adds (p .state))) (each-asks adds refl (p .state) (d .0)) refl (seen-zero (k .clock) false false)
   move-step Accept d = settles (emptied p (goesBy accepts (p .state))) (each-asks accepts refl (p .state) (d .0)) refl (seen-zero (k .clock) false false)
-  move-step Block d = settles (restamped p (goesBy blocks (p .state)) (k .clock .tlb)) (each-asks blocks refl (p .state) (d .0)) refl (seen-now (k .clock) (p .dirty) (p .cached))
-  move-step Unblock d = settles (restamped p (goesBy unblocks (p .state)) 0) (each-asks unblocks refl (p .state) (d .0)) refl (seen-zero (k .clock) (p .dirty) (p .cached))
+  move-step Block d = settles (restamped p (goesBy blocks (p .state)) (k .clock .tlb)) (each-asks blocks refl (p .state) (d .0)) refl (seen-now (k .clock)
+      (p .dirty) (p .cached))
+  move-step Unblock d = settles (restamped p (goesBy unblocks (p .state)) 0) (each-asks unblocks refl (p .state) (d .0)) refl (seen-zero (k .clock) (p .dirty)
+      (p .cached))
   move-step Remove d = settles (emptied p (goesBy removes (p .state))) (each-asks removes refl (p .state) (d .0)) refl (seen-zero (k .clock) false false)
 
 -- ---- a scan
@@ -164,7 +179,8 @@ look z = goes-each Looks looks (each-by Looks looksTest looks-by looks refl) z (
 -- one that is not renewed then was not changed
 look-stays : (z : State) → isIn (goesBy looks z) renewedStates ≡ false → goesBy looks z ≡ z
 unfolding isIn
-look-stays z = goes-each (λ (x to : State). isIn to renewedStates ≡ false → to ≡ x) looks (λ e. absurd (true≢false e), (λ e. absurd (true≢false e), tt)) z (λ e. refl)
+look-stays z = goes-each (λ (x to : State). isIn to renewedStates ≡ false →
+    to ≡ x) looks (λ e. absurd (true≢false e), (λ e. absurd (true≢false e), tt)) z (λ e. refl)
 
 -- and one that is is not up to date
 renewed-free : (z : State) → isIn z renewedStates ≡ true → (not (isExported z) && not (isPendingExported z)) ≡ true
@@ -184,7 +200,8 @@ listed-step k p =
         known = l .known (o .known);
         young = o .young;
         there = l .there h (o .there);
-        same = same-free to (not-true _ (and-left (not (isExported to)) (not (isPendingExported to)) n)) (not-true _ (and-right (not (isExported to)) (not (isPendingExported to)) n)) false (p .cached) (p .mark) h;
+        same = same-free to (not-true _ (and-left (not (isExported to)) (not (isPendingExported to)) n))
+            (not-true _ (and-right (not (isExported to)) (not (isPendingExported to)) n)) false (p .cached) (p .mark) h;
         seen = seen-now (k .clock) false (p .cached);
         still = rw (l .blocked) (o .still);
       };

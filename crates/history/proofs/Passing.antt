@@ -75,11 +75,15 @@ record Ran (scan : Scan) (n space : ℕ) (o : ScanOut) : Type 0 where
   how : Ending (scan .budget) space (o .scanned .code) at n
 
 -- a code that ends the run before the last page, where the page is not blocked
-stop-how : (scan : Scan) (blocked listed : Bool) (i put space n : ℕ) → blocked ≡ false → put ≤ i → i < n → eqb (stopCode scan blocked listed i put space) 0 ≡ false → Ending (scan .budget) space (stopCode scan blocked listed i put space) i n
+stop-how : (scan : Scan) (blocked listed : Bool) (i put space n : ℕ) → blocked ≡ false → put ≤ i → i < n →
+    eqb (stopCode scan blocked listed i put space) 0 ≡ false → Ending (scan .budget) space (stopCode scan blocked listed i put space) i n
 unfolding stopCode
-stop-how scan blocked listed i put space n b h l e = go (leb (scan .budget) i) refl (scan .checking && blocked) (rw b (and-false (scan .checking))) (listed && leb space put) refl e
+stop-how scan blocked listed i put space n b h l e =
+    go (leb (scan .budget) i) refl (scan .checking && blocked) (rw b (and-false (scan .checking))) (listed && leb space put) refl e
   where
-    go : (x : Bool) → leb (scan .budget) i ≡ x → (y : Bool) → y ≡ false → (z : Bool) → (listed && leb space put) ≡ z → eqb (cond x codes.interrupted (cond y codes.memScanFailedBlockedRange (cond z codes.listFull 0))) 0 ≡ false → Ending (scan .budget) space (cond x codes.interrupted (cond y codes.memScanFailedBlockedRange (cond z codes.listFull 0))) i n
+    go : (x : Bool) → leb (scan .budget) i ≡ x → (y : Bool) → y ≡ false → (z : Bool) → (listed && leb space put) ≡ z →
+        eqb (cond x codes.interrupted (cond y codes.memScanFailedBlockedRange (cond z codes.listFull 0))) 0 ≡ false →
+        Ending (scan .budget) space (cond x codes.interrupted (cond y codes.memScanFailedBlockedRange (cond z codes.listFull 0))) i n
     go true p y q z r e = inr (inl (record { code = refl; spent = leb-true _ _ p; place = l }))
     go false p true q z r e = absurd (true≢false q)
     go false p false q true r e =
@@ -92,14 +96,17 @@ unfolding lookOf
 look-blocked w number clock = refl
 
 -- page i is visited
-module _ (scan : Scan) (n space i put : ℕ) (part list : List ℕ) (tlb : scan .clock .tlb < 2 ^ 16) (fits : scan .first + n ≤ mostPages) (p : Passing scan n space i put part list) (l : i < n) where
+module _ (scan : Scan) (n space i put : ℕ) (part list : List ℕ) (tlb : scan .clock .tlb < 2 ^ 16) (fits : scan .first + n ≤ mostPages)
+    (p : Passing scan n space i put part list) (l : i < n) where
   abbrev look : Look
   look = lookOf (wordsAt part i) (scan .first + i) (scan .clock)
 
   inside : i < pageCount part
   inside = rw (p .size) l
 
-  visited : stopCode scan (look .blocked) (look .listed) i put (length list) ≡ 0 → Passing scan n space (i + 1) (cond (look .listed) (put + 1) put) (cond (look .listed) (putAt part i (look .words)) part) (cond (look .listed) (set list put (look .word)) list)
+  visited : stopCode scan (look .blocked) (look .listed) i put (length list) ≡ 0 →
+      Passing scan n space (i + 1) (cond (look .listed) (put + 1) put) (cond (look .listed) (putAt part i (look .words)) part)
+      (cond (look .listed) (set list put (look .word)) list)
   unfolding lookOf
   visited e = go (look .listed) refl
     where
@@ -116,9 +123,15 @@ module _ (scan : Scan) (n space i put : ℕ) (part list : List ℕ) (tlb : scan 
       other j q = ap pageOf (put-other part i j (look .words) q)
 
       names : Named words (scan .first + i)
-      names = (look .word, Memᴰ·append-right (take put list) (List·Memᴰ·head refl), listed-names (pageAt part i .state) (scan .first + i) (omega (arith, fits, l)))
+      names = (
+        look .word,
+        Memᴰ·append-right (take put list) (List·Memᴰ·head refl),
+        listed-names (pageAt part i .state) (scan .first + i)
+            (omega (arith, fits, l)),
+      )
 
-      go : (b : Bool) → look .listed ≡ b → Passing scan n space (i + 1) (cond b (put + 1) put) (cond b (putAt part i (look .words)) part) (cond b (set list put (look .word)) list)
+      go : (b : Bool) → look .listed ≡ b → Passing scan n space (i + 1) (cond b (put + 1) put) (cond b (putAt part i (look .words)) part) (cond b
+          (set list put (look .word)) list)
       go true q =
           let h : put < length list = stop-room scan (look .blocked) (look .listed) i put (length list) e q in
           record {
@@ -129,7 +142,8 @@ module _ (scan : Scan) (n space i put : ℕ) (part list : List ℕ) (tlb : scan 
             passed = λ j k.
                 rw (written h)
                 (⊎-elim
-                (λ s. subst (λ (x : ℕ). ReadyOrNamed words (scan .first + x) (pageAt (putAt part i (look .words)) x)) (sym s) (rw page (inr (listed-due (pageAt part i) (scan .clock) (p .ahead i (omega arith) l) q, names))))
+                (λ s. subst (λ (x : ℕ). ReadyOrNamed words (scan .first + x) (pageAt (putAt part i (look .words)) x)) (sym s)
+                (rw page (inr (listed-due (pageAt part i) (scan .clock) (p .ahead i (omega arith) l) q, names))))
                 (λ s. rw (other j (λ z. omega (arith, s, z))) (named-more (take put list) (look .word ∷ []) (scan .first + j) (pageAt part j) (p .passed j s)))
                 (eq-or-lt-of-le {n = j} {m = i} (omega (arith, k))));
             ahead = λ j k m. rw (other j (λ z. omega (arith, k, z))) (p .ahead j (omega (arith, k)) m);
@@ -142,13 +156,15 @@ module _ (scan : Scan) (n space i put : ℕ) (part list : List ℕ) (tlb : scan 
             few = omega (arith, p .few);
             passed = λ j k.
                 ⊎-elim
-                (λ s. subst (λ (x : ℕ). ReadyOrNamed (take put list) (scan .first + x) (pageAt part x)) (sym s) (inl (unlisted-ready (pageAt part i) (p .ahead i (omega arith) l) q)))
+                (λ s. subst (λ (x : ℕ). ReadyOrNamed (take put list) (scan .first + x) (pageAt part x)) (sym s)
+                (inl (unlisted-ready (pageAt part i) (p .ahead i (omega arith) l) q)))
                 (λ s. p .passed j s)
                 (eq-or-lt-of-le {n = j} {m = i} (omega (arith, k)));
             ahead = λ j k m. p .ahead j (omega (arith, k)) m;
           }
 
-run-ran : (left : ℕ) (scan : Scan) (n space i put : ℕ) (part list : List ℕ) → scan .checking ≡ true → scan .clock .tlb < 2 ^ 16 → scan .first + n ≤ mostPages → i + left ≡ n → Passing scan n space i put part list → Ran scan n space (scanRun left scan i put part list)
+run-ran : (left : ℕ) (scan : Scan) (n space i put : ℕ) (part list : List ℕ) → scan .checking ≡ true → scan .clock .tlb < 2 ^ 16 → scan .first + n ≤ mostPages →
+    i + left ≡ n → Passing scan n space i put part list → Ran scan n space (scanRun left scan i put part list)
 unfolding scanRun endCode
 run-ran zero scan n space i put part list c tlb fits e p =
     record { at = i; next = refl; passing = p; how = inl (record { code = rw c; place = omega arith }) }
@@ -158,7 +174,15 @@ run-ran (suc left) scan n space i put part list c tlb fits e p =
     let calm : Calm (pageAt part i) = p .ahead i (omega arith) l in
     either (λ (o : ScanOut). Ran scan n space o) (eqb (stopCode scan (f .blocked) (f .listed) i put (length list)) 0)
     (λ z. run-ran left scan n space (i + 1) _ _ _ c tlb fits (omega arith) (visited scan n space i put part list tlb fits p l (eqb-true _ _ z)))
-    (λ z. record { at = i; next = refl; passing = p; how = subst (λ (x : ℕ). Ending (scan .budget) x (stopCode scan (f .blocked) (f .listed) i put (length list)) i n) (p .long) (stop-how scan (f .blocked) (f .listed) i put (length list) n (look-blocked (wordsAt part i) (scan .first + i) (scan .clock) ∙ calm .unblocked) (p .few) l z) })
+    (λ z. record {
+      at = i;
+      next = refl;
+      passing = p;
+      how =
+          subst (λ (x : ℕ). Ending (scan .budget) x (stopCode scan (f .blocked) (f .listed) i put (length list)) i n) (p .long)
+          (stop-how scan (f .blocked) (f .listed) i put (length list) n (look-blocked (wordsAt part i) (scan .first + i) (scan .clock) ∙ calm .unblocked)
+          (p .few) l z);
+    })
 
 -- ---- in the table
 
@@ -176,7 +200,8 @@ module _ (count : ℕ) (scan : Scan) (t l : List ℕ) (fits : 2 * scan .first + 
   abbrev part : List ℕ
   part = partOf t (scan .first) count
 
-  pub range-swept : scan .checking ≡ true → scan .clock .tlb < 2 ^ 16 → scan .first + count ≤ mostPages → ((k : ℕ) → k < pageCount t → Calm (pageAt t k)) → Swept scan count t l (rangeRun count scan t l)
+  pub range-swept : scan .checking ≡ true → scan .clock .tlb < 2 ^ 16 → scan .first + count ≤ mostPages → ((k : ℕ) → k < pageCount t → Calm (pageAt t k)) →
+      Swept scan count t l (rangeRun count scan t l)
   unfolding rangeRun
   range-swept c tlb most calm =
       let start : Passing scan count (length l) 0 0 part l
@@ -201,6 +226,7 @@ module _ (count : ℕ) (scan : Scan) (t l : List ℕ) (fits : 2 * scan .first + 
             let j : ℕ = k - scan .first in
             let there : scan .first + j ≡ k = omega (arith, h) in
             let inside : j < count = omega (arith, h, m, r .passing .inside) in
-            subst (λ (x : ℕ). ReadyOrNamed (take (scanRun count scan 0 0 part l .scanned .put) (scanRun count scan 0 0 part l .list)) x (pageAt (patched t (scan .first) count (scanRun count scan 0 0 part l .part)) x)) there
+            subst (λ (x : ℕ). ReadyOrNamed (take (scanRun count scan 0 0 part l .scanned .put) (scanRun count scan 0 0 part l .list)) x
+            (pageAt (patched t (scan .first) count (scanRun count scan 0 0 part l .part)) x)) there
             (rw (patched-in t (scan .first) count (scanRun count scan 0 0 part l .part) fits size j inside) (r .passing .passed j (omega (arith, h, m))));
       }

@@ -29,7 +29,8 @@ use Rattle.session.proofs.FormedLaws.{formed-means, means-busy}
 use Rattle.lists.specs.Run.{Standing, standing}
 use Rattle.lists.specs.List.{isOver}
 use Rattle.lists.proofs.Laws.{run-far}
-use Rattle.export.specs.Export.{noResumption, noNewCall, notFrom0, exportTests, exportCode, groundOf, exportStep, begunBy, doneBy, interruptedBy, finishedBy, ExportOutcome, ranExport, exportOut}
+use Rattle.export.specs.Export.{noResumption, noNewCall, notFrom0, exportTests, exportCode, groundOf, exportStep, begunBy, doneBy, interruptedBy, finishedBy}
+use Rattle.export.specs.Export.{ExportOutcome, ranExport, exportOut}
 use Rattle.export.specs.declared.ExportAnswer.{ExportAnswer}
 use Rattle.export.proofs.Moves as moves
 use Rattle.calls.specs.Calls.{exportEffect}
@@ -134,7 +135,8 @@ module _ (n stream entries : ℕ) (rest : List (List ℕ)) where
       abbrev Came : ExportOutcome → Type 0
       Came o =
           ((o .answer .code ≡ codes.done) × Left (leftBy w g (exportEffect o)) n rest)
-          ⊎ ((o .answer .code ≡ codes.interrupted) × ((at : ℕ) × (next + budget ≤ at) × Going (leftBy w g (exportEffect o)) true (o .answer .info) (o .list) (o .buffer) at))
+          ⊎ ((o .answer .code ≡ codes.interrupted)
+          × ((at : ℕ) × (next + budget ≤ at) × Going (leftBy w g (exportEffect o)) true (o .answer .info) (o .list) (o .buffer) at))
 
       set-run : (r : Work) → withWork s stream r ≡ withStreams s (set (s .streams) stream (record { work = r }))
       unfolding withWork
@@ -171,7 +173,8 @@ module _ (n stream entries : ℕ) (rest : List (List ℕ)) where
               complete = rw (set-run AtRest) (k .complete);
               created = rw (set-run AtRest) (k .created);
               lists = lists;
-              pages = λ i h. rw (set-run AtRest) (waits-map (s .epoch) (pageAt (left .table) i) (none-ahead (left .list) (left .at .next) entries (Listed rest) i (omega (arith, q, k .last))) (along .waits i (rw (along .table) at h)));
+              pages = λ i h. rw (set-run AtRest) (waits-map (s .epoch) (pageAt (left .table) i)
+                  (none-ahead (left .list) (left .at .next) entries (Listed rest) i (omega (arith, q, k .last))) (along .waits i (rw (along .table) at h)));
             },
           )
 
@@ -185,7 +188,9 @@ module _ (n stream entries : ℕ) (rest : List (List ℕ)) where
             refl,
             (
               left .at .next,
-              ⊎-elim (λ far. omega (arith, far, begins s (length (w .table)) (length l) (length b) stream resume x accepted, k .first)) (λ end. absurd (omega (arith, end, q))) (run-far (exportStep (groundOf s)) (x .last) budget (standing (begunBy (workOf s stream)) (w .table) l b)),
+              ⊎-elim (λ far. omega (arith, far, begins s (length (w .table)) (length l) (length b) stream resume x accepted, k .first))
+                  (λ end. absurd (omega (arith, end, q)))
+                  (run-far (exportStep (groundOf s)) (x .last) budget (standing (begunBy (workOf s stream)) (w .table) l b)),
               record {
                 formed = kept .0;
                 phase = rw (set-run r) (k .phase);
@@ -211,17 +216,21 @@ module _ (n stream entries : ℕ) (rest : List (List ℕ)) where
       came =
           let outcome : exportOut s (w .table) l b stream resume info budget ≡ ranExport s stream x left = rw accepted in
           subst (λ (o : ExportOutcome). Kept o → Came o) (sym outcome)
-          (either (λ (a : ExportAnswer). Kept (ran a) → Came (ran a)) (isOver x (left .at .next)) (λ q. ended (ltb-true _ _ q)) (λ q. goes-on (ltb-false _ _ q)))
+          (either (λ (a : ExportAnswer). Kept (ran a) → Came (ran a)) (isOver x (left .at .next)) (λ q. ended (ltb-true _ _ q))
+          (λ q. goes-on (ltb-false _ _ q)))
           (formed-after w g (k .formed), streams-after w g (k .streams))
 
     -- budgets that come to the end
-    pub exported-left : (budgets : List ℕ) (w : World) (resume : Bool) (info : ℕ) (l b : List ℕ) (next : ℕ) → Going w resume info l b next → entries ≤ next + total budgets → Left (exported w stream resume info l b budgets) n rest
+    pub exported-left : (budgets : List ℕ) (w : World) (resume : Bool) (info : ℕ) (l b : List ℕ) (next : ℕ) → Going w resume info l b next →
+        entries ≤ next + total budgets → Left (exported w stream resume info l b budgets) n rest
     exported-left [] w resume info l b next k h = absurd (omega (arith, k .ordered, k .last))
     exported-left (budget ∷ budgets) w resume info l b next k h =
         let g = given (Export stream resume info budget) l b in
         let e = effectIn w g in
-        let Then : ℕ → Type 0 = λ code. Left (cond (eqb code codes.interrupted) (exported (after w g) stream true (e .returned .info) (e .list) (e .buffer) budgets) (after w g)) n rest in
+        let Then : ℕ → Type 0 = λ code. Left (cond (eqb code codes.interrupted)
+        (exported (after w g) stream true (e .returned .info) (e .list) (e .buffer) budgets) (after w g)) n rest in
         ⊎-elim
         (λ c. subst Then (sym (c .0)) (c .1))
-        (λ c. subst Then (sym (c .0)) (exported-left budgets (after w g) true (e .returned .info) (e .list) (e .buffer) (c .1 .0) (c .1 .2) (omega (arith, h, c .1 .1))))
+        (λ c. subst Then (sym (c .0)) (exported-left budgets (after w g) true (e .returned .info) (e .list) (e .buffer) (c .1 .0) (c .1 .2)
+        (omega (arith, h, c .1 .1))))
         (came w resume info budget l b next k)

@@ -78,15 +78,18 @@ swept-length k t = sweep-length (onWords (sweptBy k)) t
 swept-page : (k : Sweep) (t : List ℕ) (i : ℕ) → i < pageCount t → pageAt (swept k t) i ≡ unlessStrange (sweptBy k) (pageAt t i)
 swept-page k t i h = page-swept (sweptBy k) (swept-held k) t i h
 
-pub sweep-steps : (x : Sweep) (k k' : Moment) (t : List ℕ) → ((i : ℕ) → i < pageCount t → Step k k' (pageAt t i) (unlessStrange (sweptBy x) (pageAt t i))) → Steps k k' t (swept x t)
+pub sweep-steps : (x : Sweep) (k k' : Moment) (t : List ℕ) → ((i : ℕ) → i < pageCount t → Step k k' (pageAt t i) (unlessStrange (sweptBy x) (pageAt t i))) →
+    Steps k k' t (swept x t)
 sweep-steps x k k' t s = record { size = swept-length x t; at = λ i h. rw (swept-page x t i h) (s i h) }
 
-pub scan-steps : (k : Moment) (count : ℕ) (scan : Scan) (t l : List ℕ) → scan .clock ≡ k .clock → k .clock .tlb < 2 ^ 16 → 2 * scan .first + 2 * count ≤ length t → Steps k k t (rangeRun count scan t l .part)
+pub scan-steps : (k : Moment) (count : ℕ) (scan : Scan) (t l : List ℕ) → scan .clock ≡ k .clock → k .clock .tlb < 2 ^ 16 →
+    2 * scan .first + 2 * count ≤ length t → Steps k k t (rangeRun count scan t l .part)
 unfolding lookOf
 scan-steps k count scan t l e small fits =
     record { size = range-length count scan t l; at = λ i h. look i (range-page count scan t l fits i) }
   where
-    look : (i : ℕ) → LookedAt i (scan .clock) (wordsAt t i) (wordsAt (rangeRun count scan t l .part) i) → Step k k (pageAt t i) (pageAt (rangeRun count scan t l .part) i)
+    look : (i : ℕ) → LookedAt i (scan .clock) (wordsAt t i) (wordsAt (rangeRun count scan t l .part) i) →
+        Step k k (pageAt t i) (pageAt (rangeRun count scan t l .part) i)
     look i (inl q) = rw q (stay k (pageAt t i))
     look i (inr q) =
         rw (q .1, e, look-page (wordsAt t i) i (k .clock) small) (listed-step k (pageAt t i))
@@ -107,14 +110,18 @@ rows-steps log {t} {t'} s r i h =
     record { has = r i h' .has; ok = s .at i h' .ok (r i h' .has) (r i h' .ok); past = rw (s .at i h' .kept) (r i h' .past) }
 
 -- every page anew, with nothing at the destination
-pub rows-anew : (x : Sweep) (k k' : Moment) (log : List Sent) (t : List ℕ) → ((i : ℕ) → i < pageCount t → (h : Holding) → Ok k (pageAt t i) h → Ok k' (unlessStrange (sweptBy x) (pageAt t i)) absent × (unlessStrange (sweptBy x) (pageAt t i) .migrated ≡ 0)) → Rows k log t → Rows k' [] (swept x t)
+pub rows-anew : (x : Sweep) (k k' : Moment) (log : List Sent) (t : List ℕ) →
+    ((i : ℕ) → i < pageCount t → (h : Holding) → Ok k (pageAt t i) h →
+    Ok k' (unlessStrange (sweptBy x) (pageAt t i)) absent × (unlessStrange (sweptBy x) (pageAt t i) .migrated ≡ 0)) → Rows k log t → Rows k' [] (swept x t)
 rows-anew x k k' log t o r i h =
     let h' : i < pageCount t = rw (swept-length x t) at h in
     let y = o i h' (r i h' .has) (r i h' .ok) in
     rw (swept-page x t i h') (record { has = absent; ok = y .0; past = rw (y .1) (past-none i) })
 
 -- one entry more
-pub rows-sent : (k : Moment) (log : List Sent) (z : Sent) (t t' : List ℕ) (q : Page) → length t' ≡ length t → z .page < pageCount t → z .epoch ≡ k .epoch → pageAt t' (z .page) ≡ q → ((i : ℕ) → (i ≡ z .page → ⊥) → wordsAt t' i ≡ wordsAt t i) → Sends k (pageAt t (z .page)) q (z .operation) (madeBy z) → Rows k log t → Rows k (log ++ (z ∷ [])) t'
+pub rows-sent : (k : Moment) (log : List Sent) (z : Sent) (t t' : List ℕ) (q : Page) → length t' ≡ length t → z .page < pageCount t → z .epoch ≡ k .epoch →
+    pageAt t' (z .page) ≡ q → ((i : ℕ) → (i ≡ z .page → ⊥) → wordsAt t' i ≡ wordsAt t i) → Sends k (pageAt t (z .page)) q (z .operation) (madeBy z) →
+    Rows k log t → Rows k (log ++ (z ∷ [])) t'
 rows-sent k log z t t' q size l b here beside n r i h = elim (ℕ-discrete i (z .page)) [ yes e ↦ same e | no ne ↦ other ne ]
   where
     h' : i < pageCount t

@@ -40,12 +40,15 @@ beyond-absent : (t : List ℕ) (i : ℕ) → pageCount t ≤ i → content (page
 unfolding wordsAt pageOf plain recordOf stateOf isIn
 beyond-absent t i h = rw (le-ltb i (pageCount t) h)
 
-pub safe-beyond : (h : History) → granted (atEnd h) ≡ true → (l : List Sent) → Order (atEnd h .log) l → (i : ℕ) → pageCount (atEnd h .table) ≤ i → replay nothing l i ≡ absent
+pub safe-beyond : (h : History) → granted (atEnd h) ≡ true → (l : List Sent) → Order (atEnd h .log) l → (i : ℕ) → pageCount (atEnd h .table) ≤ i →
+    replay nothing l i ≡ absent
 safe-beyond h x l o i b =
     let w = atEnd h in
-    replay-past i 0 absent (w .log) l (none-past i (w .log) (λ y m a. omega (arith, b, a, granted-fine w x (sound-end h) .inside y m))) (perm-reordered (o .same) (o .rising))
+    replay-past i 0 absent (w .log) l (none-past i (w .log) (λ y m a. omega (arith, b, a, granted-fine w x (sound-end h) .inside y m)))
+    (perm-reordered (o .same) (o .rising))
 
-pub safe-table : (h : History) → granted (atEnd h) ≡ true → (l : List Sent) → Order (atEnd h .log) l → (i : ℕ) → replay nothing l i ≡ content (pageAt (atEnd h .table) i)
+pub safe-table : (h : History) → granted (atEnd h) ≡ true → (l : List Sent) → Order (atEnd h .log) l → (i : ℕ) →
+    replay nothing l i ≡ content (pageAt (atEnd h .table) i)
 safe-table h x l o i = go (decLt i (pageCount (w .table)))
   where
     w : World

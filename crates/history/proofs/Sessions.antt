@@ -10,7 +10,8 @@ use lib.ListN.{getD, set, getD-replicate}
 use borrow.Author.Tests.{lt-ltb, leb-true, eqb-true, eqb-false}
 use Rattle.refusals.proofs.Laws.{not-true}
 use Rattle.table.specs.Table.{legal, mostPages}
-use Rattle.session.specs.Session.{among, moving, unchecked, resting, streamPlaces, atRest, workAt, newSession, begun, withPhase, ticked, withClock, withEpoch, withCheck, withStreams, withWork}
+use Rattle.session.specs.Session.{among, moving, unchecked, resting, streamPlaces, atRest, workAt, newSession, begun, withPhase, ticked, withClock, withEpoch}
+use Rattle.session.specs.Session.{withCheck, withStreams, withWork}
 use Rattle.session.specs.Formed.{lastEpoch, fewestCreated, mostCreated, within, workResting, busy}
 use Rattle.session.specs.declared.Phase.{Phase}
 use Rattle.session.specs.declared.Phase.the-variants.{Idle, Live, Blackout, Done}
@@ -42,7 +43,8 @@ module _ {s : Session} {len : ℕ} (f : Formed s len) where
   placed = record { place = f .place; complete = f .complete; apart = f .apart }
 
   -- the guest is the same
-  again : (s' : Session) → s' .fixed ≡ s .fixed → Timed (s' .phase) (s' .clock .tlb) (s' .epoch) → Placed (s' .check) (s .fixed .pages) → Streaming s' → Formed s' len
+  again : (s' : Session) → s' .fixed ≡ s .fixed → Timed (s' .phase) (s' .clock .tlb) (s' .epoch) → Placed (s' .check) (s .fixed .pages) → Streaming s' →
+      Formed s' len
   again s' same t c streams =
       let pages : s' .fixed .pages ≡ s .fixed .pages = ap (λ (x : Fixed). x .pages) same in
       let created : s' .fixed .created ≡ s .fixed .created = ap (λ (x : Fixed). x .created) same in
@@ -145,7 +147,8 @@ set-stream P (y ∷ l) zero (suc k) x new old = old
 set-stream P (y ∷ l) (suc i) zero x new old = old
 set-stream P (y ∷ l) (suc i) (suc k) x new old = set-stream P l i k x (λ e. new (ap suc e)) old
 
-pub run-formed : {s : Session} {len : ℕ} → Formed s len → (i : ℕ) → i < streamPlaces → (r : Work) → WorkFormed (among moving (s .phase)) (s .fixed .created) i r → Formed (withWork s i r) len
+pub run-formed : {s : Session} {len : ℕ} → Formed s len → (i : ℕ) → i < streamPlaces → (r : Work) →
+    WorkFormed (among moving (s .phase)) (s .fixed .created) i r → Formed (withWork s i r) len
 unfolding withWork
 run-formed {s} f i h r e =
     rw (lt-ltb i streamPlaces h)

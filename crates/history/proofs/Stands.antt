@@ -138,10 +138,12 @@ module _ (s : Session) (t : List ℕ) (log : List Sent) (f : Stands s t log) whe
 
   -- ---- the scans
 
-  scan-stands : (count : ℕ) (scan : Scan) (l : List ℕ) → scan .clock ≡ s .clock → s .clock .tlb < 2 ^ 16 → 2 * scan .first + 2 * count ≤ length t → Stands s (rangeRun count scan t l .part) log
+  scan-stands : (count : ℕ) (scan : Scan) (l : List ℕ) → scan .clock ≡ s .clock → s .clock .tlb < 2 ^ 16 → 2 * scan .first + 2 * count ≤ length t →
+      Stands s (rangeRun count scan t l .part) log
   scan-stands count scan l e small fits = fine-steps (omega arith) (scan-steps (momentOf s) count scan t l e small fits) f
 
-  pub dscan-stands : (l : List ℕ) (first count budget : ℕ) → Stands (dscanOut s t l first count budget .answer .session) (dscanOut s t l first count budget .table) log
+  pub dscan-stands : (l : List ℕ) (first count budget : ℕ) →
+      Stands (dscanOut s t l first count budget .answer .session) (dscanOut s t l first count budget .table) log
   unfolding dscanCode
   dscan-stands l first count budget =
       dscan-either s t l first count budget (λ (o : ScanOutcome). Stands (o .answer .session) (o .table) log)
@@ -158,5 +160,6 @@ module _ (s : Session) (t : List ℕ) (log : List Sent) (f : Stands s t log) whe
       (λ z.
       let o = gate-open s (length t) (Blackout ∷ []) (dcheckTests s (length l)) refl z in
       rw (answer-session (dchecked s t l budget .scanned) (checkedBy s (dchecked s t l budget .scanned)))
-      (scan-stands (s .fixed .pages - s .check .place) (dcheckOf s budget) l refl (tlb-fits s (length t) (o .formed)) (dcheck-fits s (length t) (length l) z .1 .0)))
+      (scan-stands (s .fixed .pages - s .check .place) (dcheckOf s budget) l refl (tlb-fits s (length t) (o .formed))
+      (dcheck-fits s (length t) (length l) z .1 .0)))
       f

@@ -24,19 +24,37 @@ use Rattle.history.proofs.Pages.{Moment, isExported, isPendingExported,
 uncached-same : (z : State) (d c : Bool) (m : ℕ) (h : Holding) → Same z d c m h → Same z d false m h
 uncached-same z d c m h x = (if-map (isExported z) (λ e f y. (refl, f y .1)) (x .0), x .1)
 
-pub uncached-step : (k k' : Moment) (p : Page) → k .epoch ≤ k' .epoch → (Still (k .phase) (p .cached) (blocked p) → Still (k' .phase) false (blocked p)) → Step k k' p (unlessStrange uncached p)
+pub uncached-step : (k k' : Moment) (p : Page) → k .epoch ≤ k' .epoch → (Still (k .phase) (p .cached) (blocked p) → Still (k' .phase) false (blocked p)) →
+    Step k k' p (unlessStrange uncached p)
 unfolding unlessStrange
 uncached-step k k' p l f =
     record {
-      ok = λ h o. rw (o .known) (record { known = o .known; young = omega (arith, l, o .young); there = o .there; same = uncached-same (p .state) (p .dirty) (p .cached) (p .mark) h (o .same); seen = λ a x. refl; still = f (o .still) });
+      ok = λ h o. rw (o .known) (record {
+        known = o .known;
+        young = omega (arith, l, o .young);
+        there = o .there;
+        same =
+            uncached-same (p .state) (p .dirty) (p .cached) (p .mark) h (o .same);
+        seen = λ a x. refl;
+        still = f (o .still);
+      });
       kept = either (λ (q : Page). q .migrated ≡ p .migrated) (strange p) (λ e. refl) (λ e. refl);
     }
 
 -- only the session changes
-pub session-step : (k k' : Moment) (p : Page) → k .epoch ≤ k' .epoch → k' .clock ≡ k .clock → (Still (k .phase) (p .cached) (blocked p) → Still (k' .phase) (p .cached) (blocked p)) → Step k k' p p
+pub session-step : (k k' : Moment) (p : Page) → k .epoch ≤ k' .epoch → k' .clock ≡ k .clock →
+    (Still (k .phase) (p .cached) (blocked p) → Still (k' .phase) (p .cached) (blocked p)) → Step k k' p p
 session-step k k' p l q f =
     record {
-      ok = λ h o. record { known = o .known; young = omega (arith, l, o .young); there = o .there; same = o .same; seen = rw q (o .seen); still = f (o .still) };
+      ok = λ h o. record {
+        known = o .known;
+        young = omega (arith, l, o .young);
+        there = o .there;
+        same = o .same;
+        seen = rw q (o .seen);
+        still =
+            f (o .still);
+      };
       kept = refl;
     }
 
@@ -53,7 +71,8 @@ abort-base : (z : State) → not (isStrange z) ≡ true → isIn (goesBy aborts 
 unfolding isIn isStrange goesBy stateOf
 abort-base = every-if (λ (z : State). not (isStrange z)) (λ (z : State). isIn (goesBy aborts z) startableStates) tt
 
-refreshed-ok : (k k' : Moment) (p : Page) (to : State) → isIn to startableStates ≡ true → k' .clock ≡ k .clock → Still (k' .phase) (p .cached) (isIn to blockedStates) → (h : Holding) → Ok k p h → Ok k' (refreshed p to) absent
+refreshed-ok : (k k' : Moment) (p : Page) (to : State) → isIn to startableStates ≡ true → k' .clock ≡ k .clock →
+    Still (k' .phase) (p .cached) (isIn to blockedStates) → (h : Holding) → Ok k p h → Ok k' (refreshed p to) absent
 unfolding keptStamp
 refreshed-ok k k' p to b q s h o =
     let n = start-base to b in
@@ -62,18 +81,22 @@ refreshed-ok k k' p to b q s h o =
       known = not-true (isStrange to) (and-left (not (isStrange to)) _ n);
       young = omega arith;
       there = rw b;
-      same = same-free to (not-true _ (and-left (not (isExported to)) (not (isPendingExported to)) x)) (not-true _ (and-right (not (isExported to)) (not (isPendingExported to)) x)) (p .dirty) (p .cached) (p .mark) absent;
-      seen = either (λ (n : ℕ). Seen (k' .clock) (p .dirty) (p .cached) n) (isIn to stampedStates) (λ e. rw q (o .seen)) (λ e. seen-zero (k' .clock) (p .dirty) (p .cached));
+      same = same-free to (not-true _ (and-left (not (isExported to)) (not (isPendingExported to)) x))
+          (not-true _ (and-right (not (isExported to)) (not (isPendingExported to)) x)) (p .dirty) (p .cached) (p .mark) absent;
+      seen = either (λ (n : ℕ). Seen (k' .clock) (p .dirty) (p .cached) n) (isIn to stampedStates) (λ e. rw q (o .seen))
+          (λ e. seen-zero (k' .clock) (p .dirty) (p .cached));
       still = s;
     }
 
 -- a start and an abort: the destination has nothing
-pub started-ok : (k k' : Moment) (p : Page) → unstartable p ≡ false → k' .clock ≡ k .clock → k' .phase ≡ Live → (h : Holding) → Ok k p h → Ok k' (unlessStrange started p) absent × (unlessStrange started p .migrated ≡ 0)
+pub started-ok : (k k' : Moment) (p : Page) → unstartable p ≡ false → k' .clock ≡ k .clock → k' .phase ≡ Live → (h : Holding) → Ok k p h →
+    Ok k' (unlessStrange started p) absent × (unlessStrange started p .migrated ≡ 0)
 unfolding unlessStrange
 started-ok k k' p e q i h o =
     rw (o .known) (refreshed-ok k k' p (p .state) (not-false (isIn (p .state) startableStates) e) q (rw i tt) h o, refl)
 
-pub aborted-ok : (k k' : Moment) (p : Page) → k' .clock ≡ k .clock → k' .phase ≡ Idle → (h : Holding) → Ok k p h → Ok k' (unlessStrange aborted p) absent × (unlessStrange aborted p .migrated ≡ 0)
+pub aborted-ok : (k k' : Moment) (p : Page) → k' .clock ≡ k .clock → k' .phase ≡ Idle → (h : Holding) → Ok k p h →
+    Ok k' (unlessStrange aborted p) absent × (unlessStrange aborted p .migrated ≡ 0)
 unfolding unlessStrange
 aborted-ok k k' p q i h o =
     rw (o .known) (refreshed-ok k k' p (goesBy aborts (p .state)) (abort-base (p .state) (ap not (o .known))) q (rw i tt) h o, refl)

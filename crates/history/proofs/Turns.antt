@@ -40,7 +40,8 @@ ready-barred p r = ⊎-elim (free-barred p) (λ x. sent-barred p (x .0) (x .1)) 
 
 pub ready-stays : (word : ℕ) (w : PageWords) (g : Ground) → Ready (pageOf w) → takenOf word w g .words ≡ w
 ready-stays word w g r =
-    taken-either (λ (v : PageWords). v ≡ w) word w g (λ e. absurd (true≢false (sym (ready-barred (pageOf w) r) ∙ status-success (entryOf word) (pageOf w) g e .able))) refl
+    taken-either (λ (v : PageWords). v ≡ w) word w g
+    (λ e. absurd (true≢false (sym (ready-barred (pageOf w) r) ∙ status-success (entryOf word) (pageOf w) g e .able))) refl
 
 -- ---- a page that is due
 
@@ -85,10 +86,12 @@ due-exported w epoch r d =
     subst Ready (sym (exported-page epoch r w)) (rw (due-known (pageOf w) d) (exported-ready (pageOf w) epoch d))
 
 -- an entry of any kind
-pub due-either : (word : ℕ) (w : PageWords) (g : Ground) → g .epoch < 2 ^ 16 → Due (pageOf w) → (takenOf word w g .words ≡ w) ⊎ Ready (pageOf (takenOf word w g .words))
+pub due-either : (word : ℕ) (w : PageWords) (g : Ground) → g .epoch < 2 ^ 16 → Due (pageOf w) →
+    (takenOf word w g .words ≡ w) ⊎ Ready (pageOf (takenOf word w g .words))
 due-either word w g r d = taken-either (λ (v : PageWords). (v ≡ w) ⊎ Ready (pageOf v)) word w g (λ e. inr (due-exported w (g .epoch) r d)) (inl refl)
 
-module _ (word i : ℕ) (w : PageWords) (g : Ground) (small : g .epoch < 2 ^ 16) (paused : g .phase ≡ Blackout) (names : Names word i) (inside : i < g .pages) (due : Due (pageOf w)) (older : pageOf w .migrated < g .epoch) where
+module _ (word i : ℕ) (w : PageWords) (g : Ground) (small : g .epoch < 2 ^ 16) (paused : g .phase ≡ Blackout) (names : Names word i) (inside : i < g .pages)
+    (due : Due (pageOf w)) (older : pageOf w .migrated < g .epoch) where
   -- the test of the stamp is for Live
   unstamped : (a b c : Bool) → b ≡ false → (a && b && c) ≡ false
   unstamped true b c e = rw e
@@ -107,7 +110,14 @@ module _ (word i : ℕ) (w : PageWords) (g : Ground) (small : g .epoch < 2 ^ 16)
               due .able,
               (
                 ne-eqb (pageOf w .migrated) (g .epoch) (λ e. omega arith),
-                (due .clean, (unstamped (not (cancelled (pageOf w))) (among (Live ∷ []) (g .phase)) (not (tracked (pageOf w .stamp) (g .clock))) (ap (among (Live ∷ [])) paused), tt)),
+                (
+                  due .clean,
+                  (
+                    unstamped (not (cancelled (pageOf w))) (among (Live ∷ []) (g .phase)) (not (tracked (pageOf w .stamp) (g .clock)))
+                        (ap (among (Live ∷ [])) paused),
+                    tt,
+                  ),
+                ),
               ),
             ),
           ),

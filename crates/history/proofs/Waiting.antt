@@ -52,4 +52,5 @@ pub record Left (w : World) (n : ℕ) (ls : List (List ℕ)) : Type 0 where
   pub complete : w .session .check .complete ≡ true
   pub created : w .session .fixed .created ≡ n
   pub lists : (l : List ℕ) → List·Memᴰ l ls → Short l
-  pub pages : (i : ℕ) → i < pageCount (w .table) → Ready (pageAt (w .table) i) ⊎ (Due (pageAt (w .table) i) × (pageAt (w .table) i .migrated < w .session .epoch) × Listed ls i)
+  pub pages : (i : ℕ) → i < pageCount (w .table) →
+      Ready (pageAt (w .table) i) ⊎ (Due (pageAt (w .table) i) × (pageAt (w .table) i .migrated < w .session .epoch) × Listed ls i)

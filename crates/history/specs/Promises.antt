@@ -4,7 +4,8 @@ use mathlib.Core.Bool.{true, false, cond}
 use mathlib.Core.List.{List, [], _∷_, _++_, map}
 use Prim.Native.Nat.{ℕ, _≤_}
 use lib.ListN.{length}
-use Rattle.states.specs.States.{State, Blocked, Pending, PendingBlocked, Mapped, Exported, ExportedModified, ExportedBlocked, PendingExported, PendingExportedModified, PendingExportedBlocked, isIn}
+use Rattle.states.specs.States.{State, Blocked, Pending, PendingBlocked, Mapped, Exported, ExportedModified, ExportedBlocked, PendingExported}
+use Rattle.states.specs.States.{PendingExportedModified, PendingExportedBlocked, isIn}
 use Rattle.page.specs.Page.{Page}
 use Rattle.table.specs.Table.{pageCount, pageAt}
 use Rattle.session.specs.Formed.{busy, formed}
@@ -50,7 +51,8 @@ pub record Remembers : Type 0 where
 
 -- granted or not, in every such order each entry fits where it lands; and an epoch has at most one successful entry of a page
 pub record EntriesFit : Type 0 where
-  pub turn : (h : History) (before after : List Sent) (x : Sent) → Order (atEnd h .log) (before ++ (x ∷ after)) → Fits (x .operation) (replay nothing before (x .page))
+  pub turn : (h : History) (before after : List Sent) (x : Sent) → Order (atEnd h .log) (before ++ (x ∷ after)) →
+      Fits (x .operation) (replay nothing before (x .page))
   pub once : (h : History) → Once (atEnd h .log)
 
 -- ---- liveness
@@ -62,18 +64,26 @@ pub record StaysFormed : Type 0 where
 -- from every paused state with streams at rest and the migration epoch below its limit
 pub record Earned : Type 0 where
   -- reset, check, one new epoch and at most eight lists always earn the token
-  pub always : (h : History) → Paused (atEnd h) → (granted (sendingAll (prepared (atEnd h) fullAsks) (map atOnce (check (atEnd h) fullAsks .lists))) ≡ true) × (length (check (atEnd h) fullAsks .lists) ≤ mostLists)
+  pub always : (h : History) → Paused (atEnd h) →
+      (granted (sendingAll (prepared (atEnd h) fullAsks) (map atOnce (check (atEnd h) fullAsks .lists))) ≡ true)
+      × (length (check (atEnd h) fullAsks .lists) ≤ mostLists)
   -- with rooms of 1 to 512 and budgets of at least 1, as many DCHECKs as there are pages come to the end
-  pub ends : (h : History) → Paused (atEnd h) → (asks : List Ask) → All Fair asks → pageCount (atEnd h .table) ≤ length asks → complete (check (atEnd h) asks .world) ≡ true
+  pub ends : (h : History) → Paused (atEnd h) → (asks : List Ask) → All Fair asks → pageCount (atEnd h .table) ≤ length asks →
+      complete (check (atEnd h) asks .world) ≡ true
   -- with rooms of 512 and budgets of at least 512, or of the page count if that is less, eight do
-  pub eight : (h : History) → Paused (atEnd h) → (asks : List Ask) → All (Full (pageCount (atEnd h .table))) asks → mostLists ≤ length asks → complete (check (atEnd h) asks .world) ≡ true
+  pub eight : (h : History) → Paused (atEnd h) → (asks : List Ask) → All (Full (pageCount (atEnd h .table))) asks → mostLists ≤ length asks →
+      complete (check (atEnd h) asks .world) ≡ true
   -- and however many there are, they give at most eight lists
-  pub few : (h : History) → Paused (atEnd h) → (asks : List Ask) → All (Full (pageCount (atEnd h .table))) asks → length (check (atEnd h) asks .lists) ≤ mostLists
+  pub few : (h : History) → Paused (atEnd h) → (asks : List Ask) → All (Full (pageCount (atEnd h .table))) asks →
+      length (check (atEnd h) asks .lists) ≤ mostLists
   -- after a check that came to its end, whatever its rooms and budgets, its lists earn the token, in any order and with any budgets that come to their ends
-  pub earned : (h : History) → Paused (atEnd h) → (asks : List Ask) → complete (check (atEnd h) asks .world) ≡ true → (xs : List Sending) → Plan (atEnd h) (check (atEnd h) asks .lists) xs → granted (sendingAll (prepared (atEnd h) asks) xs) ≡ true
+  pub earned : (h : History) → Paused (atEnd h) → (asks : List Ask) → complete (check (atEnd h) asks .world) ≡ true → (xs : List Sending) →
+      Plan (atEnd h) (check (atEnd h) asks .lists) xs → granted (sendingAll (prepared (atEnd h) asks) xs) ≡ true
   -- and so do its entries cut anew into lists of 512, of which there are at most eight
   pub anew : (h : History) → Paused (atEnd h) → (asks : List Ask) → complete (check (atEnd h) asks .world) ≡ true
       → (granted (sendingAll (prepared (atEnd h) asks) (map atOnce (cutAnew (check (atEnd h) asks .lists)))) ≡ true)
       × (length (cutAnew (check (atEnd h) asks .lists)) ≤ mostLists)
   -- and any calls of export that took every entry of its lists and left no stream interrupted
-  pub anyhow : (h : History) → Paused (atEnd h) → (asks : List Ask) → complete (check (atEnd h) asks .world) ≡ true → (xs : List Exporting) → TookEvery (prepared (atEnd h) asks) (check (atEnd h) asks .lists) xs → busy (exportingAll (prepared (atEnd h) asks) xs .session) ≡ false → granted (exportingAll (prepared (atEnd h) asks) xs) ≡ true
+  pub anyhow : (h : History) → Paused (atEnd h) → (asks : List Ask) → complete (check (atEnd h) asks .world) ≡ true → (xs : List Exporting) →
+      TookEvery (prepared (atEnd h) asks) (check (atEnd h) asks .lists) xs → busy (exportingAll (prepared (atEnd h) asks) xs .session) ≡ false →
+      granted (exportingAll (prepared (atEnd h) asks) xs) ≡ true

@@ -62,7 +62,8 @@ room-for space len e h = length-take-le (len / 8) space (rw e (table-most len h)
 -- ---- what a call leaves, in the layouts and not
 
 -- a refusal of the engine's without a page leaves what a refusal here leaves
-played-refused : (c : Call) (s : Session) (x : Lent) (code : ℕ) → refusal code ≡ true → eqb code codes.exportedDirtyPagesRemain ≡ false → eqb code codes.unexportedMemoryRemains ≡ false → played c s x .answer .code ≡ code → played c s x ≡ refused code x
+played-refused : (c : Call) (s : Session) (x : Lent) (code : ℕ) → refusal code ≡ true → eqb code codes.exportedDirtyPagesRemain ≡ false →
+    eqb code codes.unexportedMemoryRemains ≡ false → played c s x .answer .code ≡ code → played c s x ≡ refused code x
 unfolding played
 played-refused c s x code r n m e =
     let k = refusal-keeps .all c s (wordsOf (x .table)) (wordsOf (x .list)) (wordsOf (x .buffer)) (ap refusal e ∙ r) in
@@ -85,7 +86,8 @@ module _ (c : Call) (x : Lent) where
   unfolding hostOf
   host-left e w = rw (e, w) (go (eqb engineCode 40) refl (eqb engineCode 41) refl)
     where
-      go : (a : Bool) → eqb engineCode 40 ≡ a → (b : Bool) → eqb engineCode 41 ≡ b → cond (eqb (cond a 40 (cond b 41 0)) 0) engineLeft (refused (cond a 40 (cond b 41 0)) x) ≡ engineLeft
+      go : (a : Bool) → eqb engineCode 40 ≡ a → (b : Bool) → eqb engineCode 41 ≡ b →
+          cond (eqb (cond a 40 (cond b 41 0)) 0) engineLeft (refused (cond a 40 (cond b 41 0)) x) ≡ engineLeft
       go true p b q = sym (played-refused c _ x 40 refl refl refl (eqb-true engineCode 40 p))
       go false p true q = sym (played-refused c _ x 41 refl refl refl (eqb-true engineCode 41 q))
       go false p false q = refl

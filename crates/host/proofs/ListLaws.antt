@@ -1,4 +1,5 @@
--- Lists and buffers: what a length that passed its test is known to be; and the place of the 42 of one that did not. 40 and 41 are the gate's, and every later code of
+-- Lists and buffers: what a length that passed its test is known to be; and the place of the 42 of one that did not. 40 and 41 are the gate's, and every later
+-- code of
 -- a scan or an export, whether one of its own tests gives it or its run, is neither.
 use mathlib.Core.Path.{_≡_, refl, sym, ap, _∙_}
 use mathlib.Core.Bool.{Bool, true, false, cond, not}
@@ -90,7 +91,8 @@ dscan-comes first count budget =
       place = λ s t l b.
           let tests = dscanTests s (length l) first count in
           dscan-either s t l first count budget (λ (o : ScanOutcome). before42 (o .answer .code) ≡ firstGroup s (length t) (Live ∷ []))
-          (λ e. ran-place s (length t) (Live ∷ []) tests (ranScan s (dscanned s t l first count budget) .answer .code) refl (range-code later scans-later count (dscanOf s first budget) t l s) e)
+          (λ e. ran-place s (length t) (Live ∷ []) tests (ranScan s (dscanned s t l first count budget) .answer .code) refl
+          (range-code later scans-later count (dscanOf s first budget) t l s) e)
           (gate-place s (length t) (Live ∷ []) tests refl);
     }
 
@@ -104,7 +106,8 @@ dcheck-comes budget =
           dcheck-either s t l budget (λ (o : ScanOutcome). before42 (o .answer .code) ≡ firstGroup s (length t) (Blackout ∷ []))
           (λ e.
           let next = checkedBy s (dchecked s t l budget .scanned) in
-          ran-place s (length t) (Blackout ∷ []) tests (ranScan next (dchecked s t l budget) .answer .code) refl (range-code later scans-later (s .fixed .pages - s .check .place) (dcheckOf s budget) t l next) e)
+          ran-place s (length t) (Blackout ∷ []) tests (ranScan next (dchecked s t l budget) .answer .code) refl
+          (range-code later scans-later (s .fixed .pages - s .check .place) (dcheckOf s budget) t l next) e)
           (gate-place s (length t) (Blackout ∷ []) tests refl);
     }
 
@@ -118,12 +121,14 @@ export-comes stream resume info budget =
           either (λ (o : ExportOutcome). before42 (o .answer .code) ≡ firstGroup s (length t) moving) (eqb (gated s (length t) moving tests) 0)
           (λ e.
           let at = exported s t l b stream info budget .at in
-          ran-place s (length t) moving tests (finishedBy s stream (infoOf info) at .code) refl (finished-code later s stream (infoOf info) at refl refl) (eqb-true _ 0 e))
+          ran-place s (length t) moving tests (finishedBy s stream (infoOf info) at .code) refl (finished-code later s stream (infoOf info) at refl refl)
+          (eqb-true _ 0 e))
           (λ e. gate-place s (length t) moving tests refl);
     }
 
 -- so what is no list is refused there
-pub no-list : (c : Call) (phases : List Phase) (x : Lent) → ComesIn c phases → inLayout c x ≡ true → inWords x ≡ false → hostOf c x ≡ refused (firstGroup (sessionOf (wordsOf (x .session))) (length (x .table) / 8) phases) x
+pub no-list : (c : Call) (phases : List Phase) (x : Lent) → ComesIn c phases → inLayout c x ≡ true → inWords x ≡ false →
+    hostOf c x ≡ refused (firstGroup (sessionOf (wordsOf (x .session))) (length (x .table) / 8) phases) x
 unfolding played
 no-list c phases x comes e w =
     let s = sessionOf (wordsOf (x .session)) in

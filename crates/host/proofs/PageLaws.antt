@@ -1,4 +1,5 @@
--- A call on one page comes down to the turn on the page's two words: with code 0 its sixteen bytes are put; every other byte, read and written again, is as it came.
+-- A call on one page comes down to the turn on the page's two words: with code 0 its sixteen bytes are put; every other byte, read and written again, is as it
+-- came.
 use mathlib.Core.Path.{_≡_, refl}
 use mathlib.Core.Bool.{Bool, true, false, cond}
 use mathlib.Core.List.{List, []}
@@ -47,13 +48,15 @@ no-words : wordsOf [] ≡ []
 unfolding wordsOf
 no-words = refl
 
-pub one-page : (m : Move) (s t : List ℕ) (page : ℕ) → Bytes s → Bytes t → readable s (length t) ≡ true → hostOf (OnPage page m) (lent s t) ≡ turnLeft s t page (turnOn m s t page)
+pub one-page : (m : Move) (s t : List ℕ) (page : ℕ) → Bytes s → Bytes t → readable s (length t) ≡ true →
+    hostOf (OnPage page m) (lent s t) ≡ turnLeft s t page (turnOn m s t page)
 unfolding played
 one-page m s t page x y e =
     rw (host-played (OnPage page m) (lent s t) refl e refl, page-turn m, no-words, words-length t)
     (go (turnOn m s t page))
   where
-    go : (turn : Turn) → leaving (effect (answered (turn .code) (sessionOf (wordsOf s)) (wordsOf t) (sessionOf (wordsOf s)) (putAt (wordsOf t) page (turn .words))) [] []) (lent s t) ≡ turnLeft s t page turn
+    go : (turn : Turn) → leaving (effect (answered (turn .code) (sessionOf (wordsOf s)) (wordsOf t) (sessionOf (wordsOf s))
+        (putAt (wordsOf t) page (turn .words))) [] []) (lent s t) ≡ turnLeft s t page turn
     go turn =
         let table = readable-means s (length t) e .table in
         let kept = session-kept s (length t) x e in

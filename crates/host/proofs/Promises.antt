@@ -1,4 +1,5 @@
--- What a call leaves is the engine's or a refusal's (`host-either`); of the engine's, `calls` has the promise. What is no list is refused in its place (`no-list`).
+-- What a call leaves is the engine's or a refusal's (`host-either`); of the engine's, `calls` has the promise. What is no list is refused in its place
+-- (`no-list`).
 use mathlib.Core.Path.{_≡_, refl, sym, ap, _∙_}
 use mathlib.Core.Bool.{Bool, true, false, _&&_}
 use mathlib.Core.List.{List, [], _∷_}
@@ -26,7 +27,8 @@ use Rattle.wire.proofs.SessionLaws.{session-length}
 use Rattle.wire.proofs.Promises.{reads-back}
 use Rattle.host.specs.declared.answers.Numbers.{Numbers}
 use Rattle.host.specs.Host.{Lent, lent, Left, inLayout, isList, codeAlone, played, hostOf}
-use Rattle.host.specs.Promises.{Meets, OneOutcome, Untouched, codeAndPage, RefusalWritesNothing, NamedToC, NoLayout, firstGroup, noListIn, NoList, onePage, Gives42, Met}
+use Rattle.host.specs.Promises.{Meets, OneOutcome, Untouched, codeAndPage, RefusalWritesNothing, NamedToC, NoLayout, firstGroup, noListIn, NoList}
+use Rattle.host.specs.Promises.{onePage, Gives42, Met}
 use Rattle.host.proofs.LayoutLaws.{host-none, host-either}
 use Rattle.host.proofs.ListLaws.{dscan-comes, dcheck-comes, export-comes, no-list}
 
@@ -54,7 +56,8 @@ module _ (c : Call) (s : Session) (x : Lent) where
       let k = refusal-keeps .all c s (wordsOf (x .table)) (wordsOf (x .list)) (wordsOf (x .buffer)) r in
       rw (k .next, k .first, k .last, k .info, k .errors, k .buffers)
 
-  played-page : eqb (played c s x .answer .code) codes.exportedDirtyPagesRemain ≡ false → eqb (played c s x .answer .code) codes.unexportedMemoryRemains ≡ false → played c s x .answer .page ≡ 0
+  played-page : eqb (played c s x .answer .code) codes.exportedDirtyPagesRemain ≡ false →
+      eqb (played c s x .answer .code) codes.unexportedMemoryRemains ≡ false → played c s x .answer .page ≡ 0
   unfolding played
   played-page = refusal-keeps .page c s (wordsOf (x .table)) (wordsOf (x .list)) (wordsOf (x .buffer))
 
@@ -70,7 +73,8 @@ refusal-writes-nothing = record {
   answer = λ c x. host-either c x (λ (l : Left). refusal (l .answer .code) ≡ true → l .answer ≡ codeAndPage (l .answer .code) (l .answer .page))
       (played-answer c _ x)
       (λ code n r. refl);
-  page = λ c x. host-either c x (λ (l : Left). eqb (l .answer .code) codes.exportedDirtyPagesRemain ≡ false → eqb (l .answer .code) codes.unexportedMemoryRemains ≡ false → l .answer .page ≡ 0)
+  page = λ c x. host-either c x (λ (l : Left). eqb (l .answer .code) codes.exportedDirtyPagesRemain ≡ false →
+      eqb (l .answer .code) codes.unexportedMemoryRemains ≡ false → l .answer .page ≡ 0)
       (played-page c _ x)
       (λ code n e f. refl);
 }
@@ -99,8 +103,11 @@ no-list-no-call = record {
   dscan = λ first count budget x e n. answer-of (no-list _ _ x (dscan-comes first count budget) e (rw n));
   dcheck = λ budget x e n. answer-of (no-list _ _ x (dcheck-comes budget) e (rw n));
   list = λ stream resume info budget x e n. answer-of (no-list _ _ x (export-comes stream resume info budget) e (rw n));
-  buffer = λ stream resume info budget x e n. answer-of (no-list _ _ x (export-comes stream resume info budget) e (rw (n, and-false (isList (length (x .list))))));
-  resume = λ stream resume info budget x e n. answer-of (no-list _ _ x (export-comes stream resume info budget) e (rw (lt-leb (x .resume) 1 n) (and-false (isList (length (x .list)) && isList (length (x .buffer))))));
+  buffer = λ stream resume info budget x e n. answer-of
+      (no-list _ _ x (export-comes stream resume info budget) e (rw (n, and-false (isList (length (x .list))))));
+  resume = λ stream resume info budget x e n. answer-of
+      (no-list _ _ x (export-comes stream resume info budget) e
+      (rw (lt-leb (x .resume) 1 n) (and-false (isList (length (x .list)) && isList (length (x .buffer))))));
 }
 
 -- ---- each hypothesis is met
@@ -118,7 +125,9 @@ module _ (phase : Phase) (f : formed (begun (newSession 1 2) phase 1) 2 ≡ true
   in-layout c list buffer resume n =
       rw (bytes-length (sessionWords session), session-length session, n) (reads-back .layout session (reads-back .formed session 2 f))
 
-  gives-42 : (c : Call) (phases : List Phase) (list buffer resume : ℕ) → isNew c ≡ false → firstGroup session 2 phases ≡ 42 → (inLayout c (onePage phase list buffer resume) ≡ true → hostOf c (onePage phase list buffer resume) .answer ≡ noListIn phases (onePage phase list buffer resume)) → Gives42 c (onePage phase list buffer resume)
+  gives-42 : (c : Call) (phases : List Phase) (list buffer resume : ℕ) → isNew c ≡ false → firstGroup session 2 phases ≡ 42 →
+      (inLayout c (onePage phase list buffer resume) ≡ true →
+      hostOf c (onePage phase list buffer resume) .answer ≡ noListIn phases (onePage phase list buffer resume)) → Gives42 c (onePage phase list buffer resume)
   gives-42 c phases list buffer resume n e none =
       let layout = in-layout c list buffer resume n in
       (layout, none layout ∙ ap codeAlone (ap (λ (s : Session). firstGroup s 2 phases) reads ∙ e))

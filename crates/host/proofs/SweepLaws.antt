@@ -48,9 +48,17 @@ unfolding played onAll
 sweep-left k s t a x y e h =
     let code = sweepCode k (sessionOf (wordsOf s)) (wordsOf t) in
     rw (h, host-played (OnAll k) (lent s t) refl e refl)
-    (answered-either (λ (o : Outcome). Leaves s t (o .answer) (bytesOf (sweepOf (onWords (sweptBy k)) (wordsOf t))) (leaving (effect o (wordsOf []) (wordsOf [])) (lent s t))) code _ _ _ _
+    (answered-either (λ (o : Outcome). Leaves s t (o .answer) (bytesOf (sweepOf (onWords (sweptBy k)) (wordsOf t)))
+    (leaving (effect o (wordsOf []) (wordsOf [])) (lent s t))) code _ _ _ _
     (λ z. rw (eqb-true code 0 z) (refl, (refl, refl)))
-    (λ n. rw n (refl, (either-kept (refusal code) (session-kept s (length t) x e), either-kept (refusal code) (table-kept t y (readable-means s (length t) e .table))))))
+    (λ n. rw n (
+      refl,
+      (
+        either-kept (refusal code) (session-kept s (length t) x e),
+        either-kept (refusal code)
+            (table-kept t y (readable-means s (length t) e .table)),
+      ),
+    )))
 
 -- ---- New
 
@@ -59,7 +67,8 @@ new-refuses : (len created : ℕ) → eqb (newCode len created) 0 ≡ false → 
 unfolding newCode
 new-refuses len created = go (not (legal len)) (not (within fewestCreated mostCreated created))
   where
-    go : (a b : Bool) → eqb (cond a codes.malformed (cond b codes.operandInvalid 0)) 0 ≡ false → refusal (cond a codes.malformed (cond b codes.operandInvalid 0)) ≡ true
+    go : (a b : Bool) → eqb (cond a codes.malformed (cond b codes.operandInvalid 0)) 0 ≡ false →
+        refusal (cond a codes.malformed (cond b codes.operandInvalid 0)) ≡ true
     go true b e = refl
     go false true e = refl
     go false false e = absurd (true≢false e)
@@ -80,6 +89,7 @@ new-left created s t a e h =
     let whole = table-whole (length t) (and-right (eqb (length s) sessionBytes) (isTable (length t)) e) in
     let code = newCode (length (wordsOf t)) created in
     rw (h, host-left (New created) (lent s t) (rw e) refl, ← cleared t whole)
-    (answered-either (λ (o : Outcome). Leaves s t (o .answer) (bytesOf (replicate (length (wordsOf t)) 0)) (leaving (effect o (wordsOf []) (wordsOf [])) (lent s t))) code _ _ _ _
+    (answered-either (λ (o : Outcome). Leaves s t (o .answer) (bytesOf (replicate (length (wordsOf t)) 0))
+    (leaving (effect o (wordsOf []) (wordsOf [])) (lent s t))) code _ _ _ _
     (λ z. rw (eqb-true code 0 z) (refl, (refl, refl)))
     (λ n. rw (n, new-refuses (length (wordsOf t)) created n) (refl, (refl, refl))))

@@ -1,4 +1,5 @@
--- The calls that write no byte of the table: what each leaves is what the code puts there, since the engine's table is the one that came, and its bytes are those.
+-- The calls that write no byte of the table: what each leaves is what the code puts there, since the engine's table is the one that came, and its bytes are
+-- those.
 use mathlib.Core.Path.{_≡_, refl, sym}
 use mathlib.Core.Bool.{Bool, true, false, cond}
 use mathlib.Core.List.{List}
@@ -35,8 +36,14 @@ pub alone-left :
     × (t ≡ hostOf (OnSession k) (lent s t) .table))
 unfolding played
 alone-left k s t a y e h =
-    rw (h, host-played (OnSession k) (lent s t) refl e refl, alone-table k)
-    (refl, (refl, either-kept (refusal (onSession k (sessionOf (wordsOf s)) (wordsOf t) .answer .code)) (table-kept t y (readable-means s (length t) e .table))))
+    rw (h, host-played (OnSession k) (lent s t) refl e refl, alone-table k) (
+      refl,
+      (
+        refl,
+        either-kept (refusal (onSession k (sessionOf (wordsOf s)) (wordsOf t) .answer .code))
+            (table-kept t y (readable-means s (length t) e .table)),
+      ),
+    )
 
 -- ---- the start token
 
@@ -52,5 +59,11 @@ pub token-left :
     × (t ≡ hostOf StartToken (lent s t) .table))
 unfolding played
 token-left s t a code page y e h n p =
-    rw (n, p, h, host-played StartToken (lent s t) refl e refl)
-    (refl, (refl, either-kept (refusal (tokenSays (tokenOut (sessionOf (wordsOf s)) (wordsOf t) .token) .code)) (table-kept t y (readable-means s (length t) e .table))))
+    rw (n, p, h, host-played StartToken (lent s t) refl e refl) (
+      refl,
+      (
+        refl,
+        either-kept (refusal (tokenSays (tokenOut (sessionOf (wordsOf s)) (wordsOf t) .token) .code))
+            (table-kept t y (readable-means s (length t) e .table)),
+      ),
+    )

@@ -24,7 +24,8 @@ readable s len = eqb (length s) sessionBytes && isTable len && fits (wordsOf s)
 -- 40 and 41 come before the 42 of a list that is none, and every other code after it
 abbrev pub before42 : ℕ → ℕ
 before42 code =
-    firstOf (eqb code codes.malformed gives codes.malformed ∷ eqb code codes.opStateIncorrect gives codes.opStateIncorrect ∷ true gives codes.operandInvalid ∷ [])
+    firstOf (eqb code codes.malformed gives codes.malformed ∷ eqb code codes.opStateIncorrect gives codes.opStateIncorrect ∷ true gives codes.operandInvalid
+    ∷ [])
 
 -- a call that reads its session and comes in these phases
 pub record ComesIn (c : Call) (phases : List Phase) : Type 0 where

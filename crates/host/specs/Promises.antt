@@ -47,8 +47,10 @@ codeAndPage code page = record { code = code; page = page; next = 0; first = 0; 
 -- a refusal writes no byte, and its answer is the code, and the page for 53 and 54
 pub record RefusalWritesNothing : Type 0 where
   pub all : (c : Call) (x : Lent) → refusal (hostOf c x .answer .code) ≡ true → Untouched x (hostOf c x)
-  pub answer : (c : Call) (x : Lent) → refusal (hostOf c x .answer .code) ≡ true → hostOf c x .answer ≡ codeAndPage (hostOf c x .answer .code) (hostOf c x .answer .page)
-  pub page : (c : Call) (x : Lent) → eqb (hostOf c x .answer .code) codes.exportedDirtyPagesRemain ≡ false → eqb (hostOf c x .answer .code) codes.unexportedMemoryRemains ≡ false → hostOf c x .answer .page ≡ 0
+  pub answer : (c : Call) (x : Lent) → refusal (hostOf c x .answer .code) ≡ true →
+      hostOf c x .answer ≡ codeAndPage (hostOf c x .answer .code) (hostOf c x .answer .page)
+  pub page : (c : Call) (x : Lent) → eqb (hostOf c x .answer .code) codes.exportedDirtyPagesRemain ≡ false →
+      eqb (hostOf c x .answer .code) codes.unexportedMemoryRemains ≡ false → hostOf c x .answer .page ≡ 0
 
 -- any bytes and any numbers get one of document 01's codes
 pub record NamedToC : Type 0 where
@@ -68,11 +70,16 @@ noListIn phases x = codeAlone (firstGroup (sessionOf (wordsOf (x .session))) (le
 
 -- a list or a buffer that is not in whole words, or is longer than 512, is 42 in that place; so is a resume above 1
 pub record NoList : Type 0 where
-  pub dscan : (first count budget : ℕ) (x : Lent) → inLayout (Dscan first count budget) x ≡ true → isList (length (x .list)) ≡ false → hostOf (Dscan first count budget) x .answer ≡ noListIn (Live ∷ []) x
-  pub dcheck : (budget : ℕ) (x : Lent) → inLayout (Dcheck budget) x ≡ true → isList (length (x .list)) ≡ false → hostOf (Dcheck budget) x .answer ≡ noListIn (Blackout ∷ []) x
-  pub list : (stream : ℕ) (resume : Bool) (info budget : ℕ) (x : Lent) → inLayout (Export stream resume info budget) x ≡ true → isList (length (x .list)) ≡ false → hostOf (Export stream resume info budget) x .answer ≡ noListIn moving x
-  pub buffer : (stream : ℕ) (resume : Bool) (info budget : ℕ) (x : Lent) → inLayout (Export stream resume info budget) x ≡ true → isList (length (x .buffer)) ≡ false → hostOf (Export stream resume info budget) x .answer ≡ noListIn moving x
-  pub resume : (stream : ℕ) (resume : Bool) (info budget : ℕ) (x : Lent) → inLayout (Export stream resume info budget) x ≡ true → 1 < x .resume → hostOf (Export stream resume info budget) x .answer ≡ noListIn moving x
+  pub dscan : (first count budget : ℕ) (x : Lent) → inLayout (Dscan first count budget) x ≡ true → isList (length (x .list)) ≡ false →
+      hostOf (Dscan first count budget) x .answer ≡ noListIn (Live ∷ []) x
+  pub dcheck : (budget : ℕ) (x : Lent) → inLayout (Dcheck budget) x ≡ true → isList (length (x .list)) ≡ false →
+      hostOf (Dcheck budget) x .answer ≡ noListIn (Blackout ∷ []) x
+  pub list : (stream : ℕ) (resume : Bool) (info budget : ℕ) (x : Lent) → inLayout (Export stream resume info budget) x ≡ true →
+      isList (length (x .list)) ≡ false → hostOf (Export stream resume info budget) x .answer ≡ noListIn moving x
+  pub buffer : (stream : ℕ) (resume : Bool) (info budget : ℕ) (x : Lent) → inLayout (Export stream resume info budget) x ≡ true →
+      isList (length (x .buffer)) ≡ false → hostOf (Export stream resume info budget) x .answer ≡ noListIn moving x
+  pub resume : (stream : ℕ) (resume : Bool) (info budget : ℕ) (x : Lent) → inLayout (Export stream resume info budget) x ≡ true → 1 < x .resume →
+      hostOf (Export stream resume info budget) x .answer ≡ noListIn moving x
 
 -- ---- each hypothesis above is met
 

@@ -37,10 +37,14 @@ pub fn with_lists(
 ) -> Numbers
     requires { ⌜ ComesIn call (phasesOf when) ⌝ }
     ensures { λ r. ⌜ r ≡ hostOf call (lentAll (now (session .entry)) (now (table .entry)) (now (list .entry)) (now (buffer .entry)) resume) .answer ⌝ }
-    ensures { λ _. ⌜ now (session .exit) ≡ hostOf call (lentAll (now (session .entry)) (now (table .entry)) (now (list .entry)) (now (buffer .entry)) resume) .session ⌝ }
-    ensures { λ _. ⌜ now (table .exit) ≡ hostOf call (lentAll (now (session .entry)) (now (table .entry)) (now (list .entry)) (now (buffer .entry)) resume) .table ⌝ }
-    ensures { λ _. ⌜ now (list .exit) ≡ hostOf call (lentAll (now (session .entry)) (now (table .entry)) (now (list .entry)) (now (buffer .entry)) resume) .list ⌝ }
-    ensures { λ _. ⌜ now (buffer .exit) ≡ hostOf call (lentAll (now (session .entry)) (now (table .entry)) (now (list .entry)) (now (buffer .entry)) resume) .buffer ⌝ }
+    ensures { λ _. ⌜ now (session .exit) ≡ hostOf call
+        (lentAll (now (session .entry)) (now (table .entry)) (now (list .entry)) (now (buffer .entry)) resume) .session ⌝ }
+    ensures { λ _. ⌜ now (table .exit) ≡ hostOf call
+        (lentAll (now (session .entry)) (now (table .entry)) (now (list .entry)) (now (buffer .entry)) resume) .table ⌝ }
+    ensures { λ _. ⌜ now (list .exit) ≡ hostOf call
+        (lentAll (now (session .entry)) (now (table .entry)) (now (list .entry)) (now (buffer .entry)) resume) .list ⌝ }
+    ensures { λ _. ⌜ now (buffer .exit) ≡ hostOf call
+        (lentAll (now (session .entry)) (now (table .entry)) (now (list .entry)) (now (buffer .entry)) resume) .buffer ⌝ }
 {
     let found = reads::read(&session[..], table.len());
     if found.fits {

@@ -57,7 +57,8 @@ fn play_words(
     requires { ⌜ (length (now session) ≡ sessionBytes) × (length (now table) % 8 ≡ 0) × (length (now words) ≡ length (now table) / 8) ⌝ }
     ensures { λ r. ⌜ r ≡ effectOf call s (wordsOf (now (table .entry))) (now (list .entry)) (now (buffer .entry)) .returned ⌝ }
     ensures { λ r. ⌜ now (session .exit) ≡ unless r (now (session .entry)) (sessionWords (r .session)) ⌝ }
-    ensures { λ r. ⌜ now (table .exit) ≡ unless r (now (table .entry)) (effectOf call s (wordsOf (now (table .entry))) (now (list .entry)) (now (buffer .entry)) .table) ⌝ }
+    ensures { λ r. ⌜ now (table .exit) ≡ unless r (now (table .entry))
+        (effectOf call s (wordsOf (now (table .entry))) (now (list .entry)) (now (buffer .entry)) .table) ⌝ }
     ensures { λ _. ⌜ now (list .exit) ≡ effectOf call s (wordsOf (now (table .entry))) (now (list .entry)) (now (buffer .entry)) .list ⌝ }
     ensures { λ _. ⌜ now (buffer .exit) ≡ effectOf call s (wordsOf (now (table .entry))) (now (list .entry)) (now (buffer .entry)) .buffer ⌝ }
 {
@@ -83,12 +84,17 @@ fn play(
     entries: &mut [u64],
     contents: &mut [u64],
 ) -> Numbers
-    requires { ⌜ (length (now session) ≡ sessionBytes) × (length (now table) % 8 ≡ 0) × (length (now words) ≡ length (now table) / 8) × (length (now list) ≡ 8 * length (now entries)) × (length (now buffer) ≡ 8 * length (now contents)) ⌝ }
+    requires { ⌜ (length (now session) ≡ sessionBytes) × (length (now table) % 8 ≡ 0) × (length (now words) ≡ length (now table) / 8)
+        × (length (now list) ≡ 8 * length (now entries)) × (length (now buffer) ≡ 8 * length (now contents)) ⌝ }
     ensures { λ r. ⌜ r ≡ played call s (lentAll (now (session .entry)) (now (table .entry)) (now (list .entry)) (now (buffer .entry)) 0) .answer ⌝ }
-    ensures { λ _. ⌜ now (session .exit) ≡ played call s (lentAll (now (session .entry)) (now (table .entry)) (now (list .entry)) (now (buffer .entry)) 0) .session ⌝ }
-    ensures { λ _. ⌜ now (table .exit) ≡ played call s (lentAll (now (session .entry)) (now (table .entry)) (now (list .entry)) (now (buffer .entry)) 0) .table ⌝ }
-    ensures { λ _. ⌜ now (list .exit) ≡ played call s (lentAll (now (session .entry)) (now (table .entry)) (now (list .entry)) (now (buffer .entry)) 0) .list ⌝ }
-    ensures { λ _. ⌜ now (buffer .exit) ≡ played call s (lentAll (now (session .entry)) (now (table .entry)) (now (list .entry)) (now (buffer .entry)) 0) .buffer ⌝ }
+    ensures { λ _. ⌜ now (session .exit) ≡ played call s
+        (lentAll (now (session .entry)) (now (table .entry)) (now (list .entry)) (now (buffer .entry)) 0) .session ⌝ }
+    ensures { λ _. ⌜ now (table .exit) ≡ played call s
+        (lentAll (now (session .entry)) (now (table .entry)) (now (list .entry)) (now (buffer .entry)) 0) .table ⌝ }
+    ensures { λ _. ⌜ now (list .exit) ≡ played call s
+        (lentAll (now (session .entry)) (now (table .entry)) (now (list .entry)) (now (buffer .entry)) 0) .list ⌝ }
+    ensures { λ _. ⌜ now (buffer .exit) ≡ played call s
+        (lentAll (now (session .entry)) (now (table .entry)) (now (list .entry)) (now (buffer .entry)) 0) .buffer ⌝ }
 {
     bytes::decode(&list[..], entries);
     bytes::decode(&buffer[..], contents);
@@ -108,12 +114,17 @@ pub fn play_lists(
     list: &mut [u8],
     buffer: &mut [u8],
 ) -> Numbers
-    requires { ⌜ (length (now session) ≡ sessionBytes) × (isTable (length (now table)) ≡ true) × (isList (length (now list)) ≡ true) × (isList (length (now buffer)) ≡ true) ⌝ }
+    requires { ⌜ (length (now session) ≡ sessionBytes) × (isTable (length (now table)) ≡ true) × (isList (length (now list)) ≡ true)
+        × (isList (length (now buffer)) ≡ true) ⌝ }
     ensures { λ r. ⌜ r ≡ played call s (lentAll (now (session .entry)) (now (table .entry)) (now (list .entry)) (now (buffer .entry)) 0) .answer ⌝ }
-    ensures { λ _. ⌜ now (session .exit) ≡ played call s (lentAll (now (session .entry)) (now (table .entry)) (now (list .entry)) (now (buffer .entry)) 0) .session ⌝ }
-    ensures { λ _. ⌜ now (table .exit) ≡ played call s (lentAll (now (session .entry)) (now (table .entry)) (now (list .entry)) (now (buffer .entry)) 0) .table ⌝ }
-    ensures { λ _. ⌜ now (list .exit) ≡ played call s (lentAll (now (session .entry)) (now (table .entry)) (now (list .entry)) (now (buffer .entry)) 0) .list ⌝ }
-    ensures { λ _. ⌜ now (buffer .exit) ≡ played call s (lentAll (now (session .entry)) (now (table .entry)) (now (list .entry)) (now (buffer .entry)) 0) .buffer ⌝ }
+    ensures { λ _. ⌜ now (session .exit) ≡ played call s
+        (lentAll (now (session .entry)) (now (table .entry)) (now (list .entry)) (now (buffer .entry)) 0) .session ⌝ }
+    ensures { λ _. ⌜ now (table .exit) ≡ played call s
+        (lentAll (now (session .entry)) (now (table .entry)) (now (list .entry)) (now (buffer .entry)) 0) .table ⌝ }
+    ensures { λ _. ⌜ now (list .exit) ≡ played call s
+        (lentAll (now (session .entry)) (now (table .entry)) (now (list .entry)) (now (buffer .entry)) 0) .list ⌝ }
+    ensures { λ _. ⌜ now (buffer .exit) ≡ played call s
+        (lentAll (now (session .entry)) (now (table .entry)) (now (list .entry)) (now (buffer .entry)) 0) .buffer ⌝ }
 {
     let mut room = [0u64; MOST_WORDS];
     let words: &mut [u64] = &mut room;

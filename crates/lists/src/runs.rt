@@ -106,9 +106,12 @@ pub fn run_entries(
 ) -> Progress
     requires { ⌜ (last < length (now list)) × (last ≤ lastEntry) × (from .next ≤ last + 1) × (from .errors ≤ from .next) × (from .filled ≤ from .next) ⌝ }
     ensures { λ r. ⌜ r ≡ listRun (takenBy kind g) last budget (standing from (now (table .entry)) (now (list .entry)) (now (buffer .entry))) .at ⌝ }
-    ensures { λ _. ⌜ now (table .exit) ≡ listRun (takenBy kind g) last budget (standing from (now (table .entry)) (now (list .entry)) (now (buffer .entry))) .table ⌝ }
-    ensures { λ _. ⌜ now (list .exit) ≡ listRun (takenBy kind g) last budget (standing from (now (table .entry)) (now (list .entry)) (now (buffer .entry))) .list ⌝ }
-    ensures { λ _. ⌜ now (buffer .exit) ≡ listRun (takenBy kind g) last budget (standing from (now (table .entry)) (now (list .entry)) (now (buffer .entry))) .buffer ⌝ }
+    ensures { λ _. ⌜ now (table .exit) ≡ listRun (takenBy kind g) last budget
+        (standing from (now (table .entry)) (now (list .entry)) (now (buffer .entry))) .table ⌝ }
+    ensures { λ _. ⌜ now (list .exit) ≡ listRun (takenBy kind g) last budget
+        (standing from (now (table .entry)) (now (list .entry)) (now (buffer .entry))) .list ⌝ }
+    ensures { λ _. ⌜ now (buffer .exit) ≡ listRun (takenBy kind g) last budget
+        (standing from (now (table .entry)) (now (list .entry)) (now (buffer .entry))) .buffer ⌝ }
 {
     let mut at = from;
     let mut spent: u64 = 0;

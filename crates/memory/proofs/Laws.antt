@@ -32,7 +32,8 @@ new-answer s len t created e = rw (← e)
 -- ---- a call on one page that is done
 
 -- the call is its turn on the words that the table holds
-pub page-turn : (m : Move) (s : Session) (t : List ℕ) (at : ℕ) → onPage m s t at ≡ answered (pageTurn m s (length t) at (wordsAt t at) .code) s t s (putAt t at (pageTurn m s (length t) at (wordsAt t at) .words))
+pub page-turn : (m : Move) (s : Session) (t : List ℕ) (at : ℕ) →
+    onPage m s t at ≡ answered (pageTurn m s (length t) at (wordsAt t at) .code) s t s (putAt t at (pageTurn m s (length t) at (wordsAt t at) .words))
 unfolding onPage pageTurn
 page-turn m s t at = refl
 
@@ -59,7 +60,8 @@ module _ (m : Move) (s : Session) (t : List ℕ) (at : ℕ) where
   made = putAt t at (onWords (movedBy m (s .clock)) (wordsAt t at))
 
   -- what holds of the outcome of a call that is done and of the one that gives back what came
-  pub page-either : (P : Outcome → Type 0) → (Done m s (length t) at (pageAt t at) → P (outcome 0 s made)) → (eqb code 0 ≡ false → P (outcome code s t)) → P (onPage m s t at)
+  pub page-either : (P : Outcome → Type 0) → (Done m s (length t) at (pageAt t at) → P (outcome 0 s made)) → (eqb code 0 ≡ false → P (outcome code s t)) →
+      P (onPage m s t at)
   unfolding onPage
   page-either P f g =
       answered-either P code s t s made
@@ -74,10 +76,13 @@ module _ (m : Move) (s : Session) (t : List ℕ) (at : ℕ) where
   unfolding unlessStrange
   page-done =
       page-either (λ (o : Outcome). o .answer .code ≡ 0 → pageAt (o .table) at ≡ movedBy m (s .clock) (pageAt t at))
-      (λ d z. rw (done-known m (pageAt t at) (s .clock) (d .moves)) at (page-put (movedBy m (s .clock)) t at (d .below) (λ k. moved-held m (s .clock) (tlb-fits s (length t) (d .formed)) (pageAt t at) (read-held (wordsAt t at) k))))
+      (λ d z. rw (done-known m (pageAt t at) (s .clock) (d .moves)) at
+      (page-put (movedBy m (s .clock)) t at (d .below)
+      (λ k. moved-held m (s .clock) (tlb-fits s (length t) (d .formed)) (pageAt t at) (read-held (wordsAt t at) k))))
       (λ q z. absurd (eqb-false code 0 q z))
 
 -- and a page that it is not on
 pub page-other : (m : Move) (s : Session) (t : List ℕ) (at k : ℕ) → (k ≡ at → ⊥) → wordsAt (onPage m s t at .table) k ≡ wordsAt t k
 page-other m s t at k ne =
-    page-either m s t at (λ (o : Outcome). wordsAt (o .table) k ≡ wordsAt t k) (λ d. put-other t at k (onWords (movedBy m (s .clock)) (wordsAt t at)) ne) (λ q. refl)
+    page-either m s t at (λ (o : Outcome). wordsAt (o .table) k ≡ wordsAt t k) (λ d. put-other t at k (onWords (movedBy m (s .clock)) (wordsAt t at)) ne)
+    (λ q. refl)

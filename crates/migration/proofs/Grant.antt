@@ -36,7 +36,8 @@ abbrev pub Settled : State → Bool → Type 0
 Settled z d = (z ≡ Free) ⊎ (((z ≡ Exported) ⊎ (z ≡ PendingExported)) × (d ≡ false))
 
 -- a state that fails a test which leaves Free and those of `sent` alone
-pub settles : (f : State → Bool) → all (λ n. f (stateOf n) || isIn (stateOf n) sentStates || isIn (stateOf n) (Free ∷ [])) → (z : State) (d : Bool) → f z ≡ false → (isIn z sentStates && d) ≡ false → Settled z d
+pub settles : (f : State → Bool) → all (λ n. f (stateOf n) || isIn (stateOf n) sentStates || isIn (stateOf n) (Free ∷ [])) → (z : State) (d : Bool) →
+    f z ≡ false → (isIn z sentStates && d) ≡ false → Settled z d
 settles f t z d = go (f z) (isIn z sentStates) refl (every-state (λ (x : State). f x || isIn x sentStates || isIn x (Free ∷ [])) t z)
   where
     go : (a b : Bool) → isIn z sentStates ≡ b → (a || b || isIn z (Free ∷ [])) ≡ true → a ≡ false → (b && d) ≡ false → Settled z d
@@ -130,7 +131,8 @@ module _ (s : Session) (t : List ℕ) (p : ℕ) where
       let c : tokenCode s t ≡ code = ap (λ (x : TokenNumbers). x .code) n in
       (c, rw c at (ap (λ (x : TokenNumbers). x .page) n))
 
-  ends : (code : ℕ) → 0 < code → once (gateTests s (length t) (Blackout ∷ []) (tokenTests s t)) code ≡ true → Named code → Ends (gateTests s (length t) (Blackout ∷ []) (tokenTests s t)) code
+  ends : (code : ℕ) → 0 < code → once (gateTests s (length t) (Blackout ∷ []) (tokenTests s t)) code ≡ true → Named code →
+      Ends (gateTests s (length t) (Blackout ∷ []) (tokenTests s t)) code
   unfolding tokenCode
   ends code h k e = gate-ended s (length t) (Blackout ∷ []) (tokenTests s t) code h k (named code e .0)
 

@@ -110,7 +110,8 @@ alone-table k s t = alone-either (λ (o : Outcome). o .table ≡ t) k s t (λ o.
 pub token-numbers : (code : ℕ) (t : List ℕ) → tokenSays (tokenFor code t) ≡ record { code = code; page = inTheWay code t }
 unfolding tokenFor inTheWay
 token-numbers code t =
-    go (lowest gives53 (pageCount t) 0 t) (lowest gives54 (pageCount t) 0 t) (eqb code codes.done) refl (eqb code codes.exportedDirtyPagesRemain) refl (eqb code codes.unexportedMemoryRemains) refl
+    go (lowest gives53 (pageCount t) 0 t) (lowest gives54 (pageCount t) 0 t) (eqb code codes.done) refl (eqb code codes.exportedDirtyPagesRemain) refl
+    (eqb code codes.unexportedMemoryRemains) refl
   where
     go :
         (x y : ℕ) (a : Bool) →
@@ -150,7 +151,9 @@ cases : {P : Type 0} (b : Bool) → (b ≡ true → P) → (b ≡ false → P) �
 cases true f g = f refl
 cases false f g = g refl
 
-pub token-answer : (s : Session) (t : List ℕ) (gate pages first53 first54 : ℕ) → gate ≡ gated s (length t) (phasesOf when.Blackout) (tokenGate s) → pages ≡ pageCount t → (gate ≡ 0 → first53 ≡ lowest gives53 (pageCount t) 0 t) → (gate ≡ 0 → pages ≤ first53 → first54 ≡ lowest gives54 (pageCount t) 0 t) → tokenAnswer s gate pages first53 first54 ≡ tokenOut s t
+pub token-answer : (s : Session) (t : List ℕ) (gate pages first53 first54 : ℕ) → gate ≡ gated s (length t) (phasesOf when.Blackout) (tokenGate s) →
+    pages ≡ pageCount t → (gate ≡ 0 → first53 ≡ lowest gives53 (pageCount t) 0 t) → (gate ≡ 0 → pages ≤ first53 → first54 ≡ lowest gives54 (pageCount t) 0 t) →
+    tokenAnswer s gate pages first53 first54 ≡ tokenOut s t
 unfolding tokenAnswer tokenOut tokenFor inTheWay some
 token-answer s t gate pages first53 first54 e n f g =
     cases (eqb gate 0)

@@ -30,13 +30,17 @@ pub record Grantable (s : Session) (t : List ℕ) : Type 0 where
 -- of calls that pass 40: granted exactly when the guest is paused, no stream is interrupted, the check is complete and every page is ready
 pub record GrantedExactly : Type 0 where
   pub only : (s : Session) (t : List ℕ) → tokenSays (tokenOut s t .token) .code ≡ codes.done → Grantable s t
-  pub whenever : (s : Session) (t : List ℕ) → formed s (length t) ≡ true → Grantable s t → tokenSays (tokenOut s t .token) ≡ record { code = codes.done; page = 0 }
+  pub whenever : (s : Session) (t : List ℕ) → formed s (length t) ≡ true → Grantable s t →
+      tokenSays (tokenOut s t .token) ≡ record { code = codes.done; page = 0 }
 
 -- 53 and 54 each with the lowest such page, and 54 only where no page gives 53
 pub record NamesTheLowest : Type 0 where
-  pub changed : (s : Session) (t : List ℕ) (p : ℕ) → tokenSays (tokenOut s t .token) ≡ record { code = codes.exportedDirtyPagesRemain; page = p } → Lowest gives53 t p
-  pub unsent : (s : Session) (t : List ℕ) (p : ℕ) → tokenSays (tokenOut s t .token) ≡ record { code = codes.unexportedMemoryRemains; page = p } → Lowest gives54 t p
-  pub before : (s : Session) (t : List ℕ) (p : ℕ) → tokenSays (tokenOut s t .token) ≡ record { code = codes.unexportedMemoryRemains; page = p } → (k : ℕ) → k < pageCount t → gives53 (pageAt t k) ≡ false
+  pub changed : (s : Session) (t : List ℕ) (p : ℕ) → tokenSays (tokenOut s t .token) ≡ record { code = codes.exportedDirtyPagesRemain; page = p } →
+      Lowest gives53 t p
+  pub unsent : (s : Session) (t : List ℕ) (p : ℕ) → tokenSays (tokenOut s t .token) ≡ record { code = codes.unexportedMemoryRemains; page = p } →
+      Lowest gives54 t p
+  pub before : (s : Session) (t : List ℕ) (p : ℕ) → tokenSays (tokenOut s t .token) ≡ record { code = codes.unexportedMemoryRemains; page = p } → (k : ℕ) →
+      k < pageCount t → gives53 (pageAt t k) ≡ false
 
 -- what these ask can be met
 pub record Met : Type 0 where

@@ -66,7 +66,8 @@ pub fn token_gate(s: Session, len: usize) -> u64
     codes::DONE
 }
 
-// What the token answers: `gate` is what stands before the table, and with 0 `first53` is the lowest page of `pages` that gives 53; where there is none, `first54` the lowest that gives 54.
+// What the token answers: `gate` is what stands before the table, and with 0 `first53` is the lowest page of `pages` that gives 53; where there is none,
+// `first54` the lowest that gives 54.
 pub fn token_answer(
     s: Session,
     gate: u64,
@@ -113,7 +114,11 @@ fn first(asked: bool, table: &[u64], k: Sought) -> usize
 
 pub fn start_token(s: Session, table: &[u64]) -> TokenAnswer
     ensures { λ r. ⌜ r ≡ tokenOut s (now (table .entry)) ⌝ }
-    ensures { λ r. ⌜ tokenSays (r .token) ≡ record { code = tokenCode s (now (table .entry)); page = inTheWay (tokenCode s (now (table .entry))) (now (table .entry)) } ⌝ }
+    ensures { λ r. ⌜ tokenSays (r .token) ≡ record {
+      code = tokenCode s (now (table .entry));
+      page =
+          inTheWay (tokenCode s (now (table .entry))) (now (table .entry));
+    } ⌝ }
 {
     let pages = table.len() / 2;
     let gate = token_gate(s, table.len());

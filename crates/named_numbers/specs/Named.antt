@@ -9,15 +9,24 @@ use Rattle.words.specs.Hints as Hints
 
 abbrev pub codeNumbers : List ℕ
 codeNumbers =
-    Codes.done ∷ Codes.interrupted ∷ Codes.listFull ∷ Codes.checkComplete ∷ Codes.malformed ∷ Codes.opStateIncorrect ∷ Codes.operandInvalid ∷ Codes.operandBusy ∷ Codes.invalidResumption ∷ Codes.eptEntryStateIncorrect ∷ Codes.gpaRangeNotBlocked ∷ Codes.tlbTrackingNotDone ∷ Codes.blockedMemoryExists ∷ Codes.blockingDisallowed ∷ Codes.memScanResetRequired ∷ Codes.memScanFailedBlockedRange ∷ Codes.memScanDcheckNotDone ∷ Codes.exportedDirtyPagesRemain ∷ Codes.unexportedMemoryRemains ∷ Codes.migrationEpochOverflow ∷ Codes.tlbEpochAtLimit ∷ []
+    Codes.done ∷ Codes.interrupted ∷ Codes.listFull ∷ Codes.checkComplete ∷ Codes.malformed ∷ Codes.opStateIncorrect ∷ Codes.operandInvalid ∷ Codes.operandBusy
+    ∷ Codes.invalidResumption ∷ Codes.eptEntryStateIncorrect ∷ Codes.gpaRangeNotBlocked ∷ Codes.tlbTrackingNotDone ∷ Codes.blockedMemoryExists
+    ∷ Codes.blockingDisallowed ∷ Codes.memScanResetRequired ∷ Codes.memScanFailedBlockedRange ∷ Codes.memScanDcheckNotDone ∷ Codes.exportedDirtyPagesRemain
+    ∷ Codes.unexportedMemoryRemains ∷ Codes.migrationEpochOverflow ∷ Codes.tlbEpochAtLimit ∷ []
 
 abbrev pub stateNumbers : List ℕ
 stateNumbers =
-    States.free ∷ States.blocked ∷ States.pending ∷ States.pendingBlocked ∷ States.mapped ∷ States.exported ∷ States.exportedModified ∷ States.exportedBlocked ∷ States.exportedRemoved ∷ States.pendingExported ∷ States.pendingExportedModified ∷ States.pendingExportedBlocked ∷ States.removed ∷ States.removeInProgress ∷ States.blockedw ∷ States.exportedBlockedw ∷ States.exportedDirty ∷ States.exportedDirtyBlockedw ∷ States.pendingBlockedw ∷ States.pendingExportedBlockedw ∷ States.pendingExportedDirty ∷ States.pendingExportedDirtyBlockedw ∷ States.exportedRemoveInProgress ∷ States.mmioMapped ∷ States.mmioBlocked ∷ States.mmioPending ∷ States.l2Free ∷ States.l2Blocked ∷ States.l2Mapped ∷ States.l2MmioMapped ∷ States.l2MmioBlocked ∷ States.nlBlocked ∷ States.nlMapped ∷ States.l2NlBlocked ∷ States.l2NlMapped ∷ []
+    States.free ∷ States.blocked ∷ States.pending ∷ States.pendingBlocked ∷ States.mapped ∷ States.exported ∷ States.exportedModified ∷ States.exportedBlocked
+    ∷ States.exportedRemoved ∷ States.pendingExported ∷ States.pendingExportedModified ∷ States.pendingExportedBlocked ∷ States.removed
+    ∷ States.removeInProgress ∷ States.blockedw ∷ States.exportedBlockedw ∷ States.exportedDirty ∷ States.exportedDirtyBlockedw ∷ States.pendingBlockedw
+    ∷ States.pendingExportedBlockedw ∷ States.pendingExportedDirty ∷ States.pendingExportedDirtyBlockedw ∷ States.exportedRemoveInProgress
+    ∷ States.mmioMapped ∷ States.mmioBlocked ∷ States.mmioPending ∷ States.l2Free ∷ States.l2Blocked ∷ States.l2Mapped ∷ States.l2MmioMapped
+    ∷ States.l2MmioBlocked ∷ States.nlBlocked ∷ States.nlMapped ∷ States.l2NlBlocked ∷ States.l2NlMapped ∷ []
 
 abbrev pub statusNumbers : List ℕ
 statusNumbers =
-    Statuses.success ∷ Statuses.skipped ∷ Statuses.septWalkFailed ∷ Statuses.septEntryStateIncorrect ∷ Statuses.tlbTrackingNotDone ∷ Statuses.migratedInCurrentEpoch ∷ Statuses.gpaListEntryInvalid ∷ Statuses.pageDirty ∷ []
+    Statuses.success ∷ Statuses.skipped ∷ Statuses.septWalkFailed ∷ Statuses.septEntryStateIncorrect ∷ Statuses.tlbTrackingNotDone
+    ∷ Statuses.migratedInCurrentEpoch ∷ Statuses.gpaListEntryInvalid ∷ Statuses.pageDirty ∷ []
 
 abbrev pub operationNumbers : List ℕ
 operationNumbers =

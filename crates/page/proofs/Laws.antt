@@ -75,7 +75,8 @@ pub read-number : (w : PageWords) → strange (pageOf w) ≡ false → numberRea
 read-number w e =
     sym (number-state (numberRead (recordOf (w .word))) (ap isStrange (number-read w) ∙ e)) ∙ ap numberOf (number-read w)
 
-as-read : (r : Record) (n a b : ℕ) → n ≡ r .state → r .spare10 ≡ a → r .spare48 ≡ b → record { state = n; dirty = r .dirty; cached = r .cached; spare10 = a; stamp = r .stamp; migrated = r .migrated; spare48 = b } ≡ r
+as-read : (r : Record) (n a b : ℕ) → n ≡ r .state → r .spare10 ≡ a → r .spare48 ≡ b →
+    record { state = n; dirty = r .dirty; cached = r .cached; spare10 = a; stamp = r .stamp; migrated = r .migrated; spare48 = b } ≡ r
 as-read r n a b x y z = rw (x, ← y, ← z)
 
 -- the record of a page that is not strange is what its word says
@@ -96,12 +97,14 @@ unfolding pageOf plain
 read-written p h = rw (record-word (recordFor p) (fits p (h .stamp) (h .migrated)), state-number (p .state))
 
 -- a word whose fields were set as a move sets those of the page is the moved page's
-pub words-set : (f : Record → Record) (w : PageWords) (v : ℕ) (q : Page) → v < 2 ^ 64 → strange (pageOf w) ≡ false → recordOf v ≡ f (recordOf (w .word)) → f (recordFor (pageOf w)) ≡ lowered (recordFor q) → record { word = v; mark = q .mark } ≡ wordsFor q
+pub words-set : (f : Record → Record) (w : PageWords) (v : ℕ) (q : Page) → v < 2 ^ 64 → strange (pageOf w) ≡ false → recordOf v ≡ f (recordOf (w .word)) →
+    f (recordFor (pageOf w)) ≡ lowered (recordFor q) → record { word = v; mark = q .mark } ≡ wordsFor q
 words-set f w v q l e x y =
     ap (λ (n : ℕ). record { word = n; mark = q .mark }) (word-lowered v (recordFor q) l (x ∙ ap f (sym (read-record w e)) ∙ y))
 
 -- where a call takes a page that is not strange, by its state's number
-pub goal-number : (l : List Change) (w : PageWords) (n : ℕ) → strange (pageOf w) ≡ false → n ≡ numberRead (recordOf (w .word)) → numberBy l n ≡ numberOf (goesBy l (pageOf w .state))
+pub goal-number : (l : List Change) (w : PageWords) (n : ℕ) → strange (pageOf w) ≡ false → n ≡ numberRead (recordOf (w .word)) →
+    numberBy l n ≡ numberOf (goesBy l (pageOf w .state))
 goal-number l w n e q = ap (numberBy l) (q ∙ read-number w e) ∙ number-by l (pageOf w .state)
 
 -- ---- moves

@@ -30,7 +30,8 @@ has Unblock n h = has-move unblocks n h tt
 has Remove n h = has-move removes n h tt
 
 -- a call has a move for a page where it takes its number to another
-pub able : (m : Move) (w : PageWords) (n to : ℕ) → n < 2 ^ 8 → stateOf n ≡ pageOf w .state → to ≡ numberBy (changesOf m) n → not (eqb to n) ≡ hasMove (changesOf m) (pageOf w .state)
+pub able : (m : Move) (w : PageWords) (n to : ℕ) → n < 2 ^ 8 → stateOf n ≡ pageOf w .state → to ≡ numberBy (changesOf m) n →
+    not (eqb to n) ≡ hasMove (changesOf m) (pageOf w .state)
 able m w n to h e q = ap (λ (x : ℕ). not (eqb x n)) q ∙ has m n h ∙ ap (hasMove (changesOf m)) e
 
 -- ---- what a call asks of its page

@@ -47,7 +47,15 @@ moveTests Remove p clock =
 -- the mark is stored; Dirty is set only if Cached is clear, and not in 1 and 26; then Cached is set
 abbrev pub stored : Page → ℕ → Page
 stored p mark =
-    record { state = p .state; dirty = p .dirty || (isIn (p .state) writableStates && not (p .cached)); cached = true; stamp = p .stamp; migrated = p .migrated; mark = mark }
+    record {
+      state = p .state;
+      dirty = p .dirty || (isIn (p .state) writableStates && not (p .cached));
+      cached = true;
+      stamp = p .stamp;
+      migrated =
+          p .migrated;
+      mark = mark;
+    }
 
 -- mark, Dirty, Cached and stamp cleared, not the migration epoch
 abbrev pub emptied : Page → State → Page

@@ -135,7 +135,8 @@ pub ended : (l : List Test) (n : ℕ) → 0 < n → once l n ≡ true → firstO
 ended [] n h k e = omega arith
 ended (t ∷ l) n h k e = go (eqb (t .code) n) refl (t .holds) refl k e (ended l n h)
   where
-    go : (c : Bool) → eqb (t .code) n ≡ c → (b : Bool) → t .holds ≡ b → cond c (absent l n) (once l n) ≡ true → cond b (t .code) (firstOf l) ≡ n → (once l n ≡ true → firstOf l ≡ n → Ends l n) → Pick c (t .holds ≡ true) ((t .holds ≡ false) × Ends l n)
+    go : (c : Bool) → eqb (t .code) n ≡ c → (b : Bool) → t .holds ≡ b → cond c (absent l n) (once l n) ≡ true → cond b (t .code) (firstOf l) ≡ n →
+        (once l n ≡ true → firstOf l ≡ n → Ends l n) → Pick c (t .holds ≡ true) ((t .holds ≡ false) × Ends l n)
     go true q true x k e r = x
     go true q false x k e r = absurd (absent-code l n h k e)
     go false q true x k e r = absurd (eqb-false (t .code) n q e)

@@ -30,19 +30,22 @@ stop-room scan b l i put room e h = leb-false room put (rw h at (passed (stopTes
 more : (n i : ℕ) → i < n → n - i ≡ suc (n - (i + 1))
 more n i h = omega arith
 
-module _ (n : ℕ) (scan : Scan) (i put : ℕ) (part list : List ℕ) (w : PageWords) (b l : Bool) (code : ℕ) (inside : i < n) (loaded : w ≡ wordsAt part i) (shut : b ≡ blocked (pageOf w)) (found : l ≡ listed (pageOf w)) (coded : code ≡ stopCode scan b l i put (length list)) where
+module _ (n : ℕ) (scan : Scan) (i put : ℕ) (part list : List ℕ) (w : PageWords) (b l : Bool) (code : ℕ) (inside : i < n) (loaded : w ≡ wordsAt part i)
+    (shut : b ≡ blocked (pageOf w)) (found : l ≡ listed (pageOf w)) (coded : code ≡ stopCode scan b l i put (length list)) where
   -- a code ends the run
   pub scan-stops : (code ≡ 0 → ⊥) → scanRun (n - i) scan i put part list ≡ stop code (scan .first + i) put part list
   unfolding scanRun lookOf
   scan-stops e = rw (more n i inside, ← loaded, ← shut, ← found, ← coded, ne-eqb _ _ e)
 
   -- without one it goes on to the next page
-  pub scan-visits : code ≡ 0 → scanRun (n - i) scan i put part list ≡ scanRun (n - (i + 1)) scan (i + 1) (cond l (put + 1) put) (cond l (putAt part i (onWords (listedPage (scan .clock)) w)) part) (cond l (set list put (listedWord (pageOf w .state) (scan .first + i))) list)
+  pub scan-visits : code ≡ 0 → scanRun (n - i) scan i put part list ≡ scanRun (n - (i + 1)) scan (i + 1) (cond l (put + 1) put) (cond l
+      (putAt part i (onWords (listedPage (scan .clock)) w)) part) (cond l (set list put (listedWord (pageOf w .state) (scan .first + i))) list)
   unfolding scanRun lookOf
   scan-visits e = rw (more n i inside, ← loaded, ← shut, ← found, ← coded, eq-eqb _ _ e)
 
 -- past the last page
-pub scan-ends : (n : ℕ) (scan : Scan) (i put : ℕ) (part list : List ℕ) (code : ℕ) → n ≤ i → code ≡ endCode (scan .checking) → scanRun (n - i) scan i put part list ≡ stop code (scan .first + i) put part list
+pub scan-ends : (n : ℕ) (scan : Scan) (i put : ℕ) (part list : List ℕ) (code : ℕ) → n ≤ i → code ≡ endCode (scan .checking) →
+    scanRun (n - i) scan i put part list ≡ stop code (scan .first + i) put part list
 unfolding scanRun
 scan-ends n scan i put part list code h e =
     let none : n - i ≡ 0 = omega arith in
@@ -90,7 +93,8 @@ dscan-fits s len room first count e =
     (omega arith, f .most)
 
 -- and those from the session's place to the end, in a DCHECK that is not refused
-pub dcheck-fits : (s : Session) (len room : ℕ) → dcheckCode s len room ≡ 0 → (s .check .place ≤ s .fixed .pages) × Fits len (s .check .place) (s .fixed .pages - s .check .place)
+pub dcheck-fits : (s : Session) (len room : ℕ) → dcheckCode s len room ≡ 0 →
+    (s .check .place ≤ s .fixed .pages) × Fits len (s .check .place) (s .fixed .pages - s .check .place)
 unfolding dcheckCode
 dcheck-fits s len room e =
     let o = gate-open s len (Blackout ∷ []) (dcheckTests s room) refl e in

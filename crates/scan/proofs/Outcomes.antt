@@ -18,7 +18,8 @@ use Rattle.page.proofs.Laws.{Held, read-held, page-moved}
 use Rattle.table.specs.Table.{wordsAt, pageAt}
 use Rattle.session.specs.declared.Session.{Session}
 use Rattle.scan.specs.Look.{renewed, listedPage, lookOf}
-use Rattle.scan.specs.Scan.{stopTests, stopCode, endCode, ScanOut, scanRun, rangeRun, answerOf, ScanOutcome, refusedScan, ranScan, dscanCode, dscanOf, dscanOut, dcheckCode, dcheckOf, checkedBy, dcheckOut}
+use Rattle.scan.specs.Scan.{stopTests, stopCode, endCode, ScanOut, scanRun, rangeRun, answerOf, ScanOutcome, refusedScan, ranScan, dscanCode, dscanOf}
+use Rattle.scan.specs.Scan.{dscanOut, dcheckCode, dcheckOf, checkedBy, dcheckOut}
 use Rattle.scan.specs.declared.Scan.{Scan}
 use Rattle.scan.specs.declared.Scanned.{Scanned}
 use Rattle.scan.specs.declared.ScanAnswer.{ScanAnswer}
@@ -90,7 +91,8 @@ module _ (s : Session) (t l : List ℕ) (first count budget : ℕ) where
   abbrev pub dscanned : ScanOut
   dscanned = rangeRun count (dscanOf s first budget) t l
 
-  pub dscan-either : (P : ScanOutcome → Type 0) → (dscanCode s (length t) (length l) first count ≡ 0 → P (ranScan s dscanned)) → P (refusedScan (dscanCode s (length t) (length l) first count) s t l) → P (dscanOut s t l first count budget)
+  pub dscan-either : (P : ScanOutcome → Type 0) → (dscanCode s (length t) (length l) first count ≡ 0 → P (ranScan s dscanned)) →
+      P (refusedScan (dscanCode s (length t) (length l) first count) s t l) → P (dscanOut s t l first count budget)
   unfolding dscanOut
   dscan-either P ran kept =
       let code = dscanCode s (length t) (length l) first count in
@@ -107,7 +109,8 @@ module _ (s : Session) (t l : List ℕ) (budget : ℕ) where
   abbrev pub dchecked : ScanOut
   dchecked = rangeRun (s .fixed .pages - s .check .place) (dcheckOf s budget) t l
 
-  pub dcheck-either : (P : ScanOutcome → Type 0) → (dcheckCode s (length t) (length l) ≡ 0 → P (ranScan (checkedBy s (dchecked .scanned)) dchecked)) → P (refusedScan (dcheckCode s (length t) (length l)) s t l) → P (dcheckOut s t l budget)
+  pub dcheck-either : (P : ScanOutcome → Type 0) → (dcheckCode s (length t) (length l) ≡ 0 → P (ranScan (checkedBy s (dchecked .scanned)) dchecked)) →
+      P (refusedScan (dcheckCode s (length t) (length l)) s t l) → P (dcheckOut s t l budget)
   unfolding dcheckOut
   dcheck-either P ran kept =
       let code = dcheckCode s (length t) (length l) in

@@ -40,10 +40,12 @@ visited-other scan i part k n =
     let f = lookOf (wordsAt part i) (scan .first + i) (scan .clock) in
     either (λ (p : List ℕ). wordsAt p k ≡ wordsAt part k) (f .listed) (λ h. put-other part i k (f .words) n) (λ h. refl)
 
-visited-same : (scan : Scan) (i : ℕ) (part : List ℕ) → i < pageCount part → LookedAt (scan .first + i) (scan .clock) (wordsAt part i) (wordsAt (visited scan i part) i)
+visited-same : (scan : Scan) (i : ℕ) (part : List ℕ) → i < pageCount part →
+    LookedAt (scan .first + i) (scan .clock) (wordsAt part i) (wordsAt (visited scan i part) i)
 visited-same scan i part b =
     let f = lookOf (wordsAt part i) (scan .first + i) (scan .clock) in
-    either (λ (p : List ℕ). LookedAt (scan .first + i) (scan .clock) (wordsAt part i) (wordsAt p i)) (f .listed) (λ h. inr (h, put-same part i (f .words) b)) (λ h. inl refl)
+    either (λ (p : List ℕ). LookedAt (scan .first + i) (scan .clock) (wordsAt part i) (wordsAt p i)) (f .listed) (λ h. inr (h, put-same part i (f .words) b))
+    (λ h. inl refl)
 
 pub run-length : (n : ℕ) (scan : Scan) (i put : ℕ) (part list : List ℕ) → length (scanRun n scan i put part list .part) ≡ length part
 unfolding scanRun
@@ -65,7 +67,8 @@ run-passed (suc n) scan i put part list k h =
     (λ e. refl)
 
 -- a page that lies before it stays or is listed
-run-page : (n : ℕ) (scan : Scan) (i put : ℕ) (part list : List ℕ) (k : ℕ) → i ≤ k → k < pageCount part → LookedAt (scan .first + k) (scan .clock) (wordsAt part k) (wordsAt (scanRun n scan i put part list .part) k)
+run-page : (n : ℕ) (scan : Scan) (i put : ℕ) (part list : List ℕ) (k : ℕ) → i ≤ k → k < pageCount part →
+    LookedAt (scan .first + k) (scan .clock) (wordsAt part k) (wordsAt (scanRun n scan i put part list .part) k)
 unfolding scanRun
 run-page zero scan i put part list k a b = inl refl
 run-page (suc n) scan i put part list k a b =
@@ -74,14 +77,17 @@ run-page (suc n) scan i put part list k a b =
     let put′ = cond (f .listed) (put + 1) put in
     let list′ = cond (f .listed) (set list put (f .word)) list in
     let size : length p ≡ length part = visited-length scan i part in
-    either (λ (o : ScanOut). LookedAt (scan .first + k) (scan .clock) (wordsAt part k) (wordsAt (o .part) k)) (eqb (stopCode scan (f .blocked) (f .listed) i put (length list)) 0)
+    either (λ (o : ScanOut). LookedAt (scan .first + k) (scan .clock) (wordsAt part k) (wordsAt (o .part) k))
+    (eqb (stopCode scan (f .blocked) (f .listed) i put (length list)) 0)
     (λ e.
     ⊎-elim
     (λ q.
     subst (λ (j : ℕ). LookedAt (scan .first + j) (scan .clock) (wordsAt part j) (wordsAt (scanRun n scan (i + 1) put′ p list′ .part) j)) q
-    (subst (λ (w : PageWords). LookedAt (scan .first + i) (scan .clock) (wordsAt part i) w) (sym (run-passed n scan (i + 1) put′ p list′ i (omega arith))) (visited-same scan i part (omega arith))))
+    (subst (λ (w : PageWords). LookedAt (scan .first + i) (scan .clock) (wordsAt part i) w) (sym (run-passed n scan (i + 1) put′ p list′ i (omega arith)))
+    (visited-same scan i part (omega arith))))
     (λ l.
-    subst (λ (w : PageWords). LookedAt (scan .first + k) (scan .clock) w (wordsAt (scanRun n scan (i + 1) put′ p list′ .part) k)) (visited-other scan i part k (λ q. omega arith))
+    subst (λ (w : PageWords). LookedAt (scan .first + k) (scan .clock) w (wordsAt (scanRun n scan (i + 1) put′ p list′ .part) k))
+    (visited-other scan i part k (λ q. omega arith))
     (run-page n scan (i + 1) put′ p list′ k (omega arith) (rw size b)))
     (eq-or-lt-of-le a))
     (λ e. inl refl)
@@ -89,11 +95,13 @@ run-page (suc n) scan i put part list k a b =
 -- ---- a part of the table
 
 -- pages of equal words
-words-by : (t u : List ℕ) (k j : ℕ) → k < pageCount t → j < pageCount u → getD t (2 * k) 0 ≡ getD u (2 * j) 0 → getD t (2 * k + 1) 0 ≡ getD u (2 * j + 1) 0 → wordsAt t k ≡ wordsAt u j
+words-by : (t u : List ℕ) (k j : ℕ) → k < pageCount t → j < pageCount u → getD t (2 * k) 0 ≡ getD u (2 * j) 0 → getD t (2 * k + 1) 0 ≡ getD u (2 * j + 1) 0 →
+    wordsAt t k ≡ wordsAt u j
 unfolding wordsAt
 words-by t u k j a b x y = rw (lt-ltb k (pageCount t) a, lt-ltb j (pageCount u) b, x, y)
 
-words-same : (t u : List ℕ) (k : ℕ) → length t ≡ length u → getD t (2 * k) 0 ≡ getD u (2 * k) 0 → getD t (2 * k + 1) 0 ≡ getD u (2 * k + 1) 0 → wordsAt t k ≡ wordsAt u k
+words-same : (t u : List ℕ) (k : ℕ) → length t ≡ length u → getD t (2 * k) 0 ≡ getD u (2 * k) 0 → getD t (2 * k + 1) 0 ≡ getD u (2 * k + 1) 0 →
+    wordsAt t k ≡ wordsAt u k
 unfolding wordsAt
 words-same t u k e x y = rw (e, x, y)
 
@@ -126,7 +134,8 @@ module _ (t : List ℕ) (first count : ℕ) (p : List ℕ) (h : 2 * first + 2 * 
       let there : 2 * first + (2 * count + m) ≡ j = omega arith in
       let down : getD (p ++ drop (2 * count) (drop (2 * first) t)) (2 * count + m) 0 ≡ getD t (2 * first + (2 * count + m)) 0
       = subst (λ (x : ℕ). getD (p ++ drop (2 * count) (drop (2 * first) t)) (x + m) 0 ≡ getD t (2 * first + (2 * count + m)) 0) e
-      (getD-append-add p (drop (2 * count) (drop (2 * first) t)) m 0 ∙ getD-drop (2 * count) (drop (2 * first) t) m 0 ∙ getD-drop (2 * first) t (2 * count + m) 0) in
+      (getD-append-add p (drop (2 * count) (drop (2 * first) t)) m 0 ∙ getD-drop (2 * count) (drop (2 * first) t) m 0
+      ∙ getD-drop (2 * first) t (2 * count + m) 0) in
       subst (λ (x : ℕ). getD (patched t first count p) x 0 ≡ getD t x 0) there (rest (2 * count + m) ∙ down)
 
   size : length (patched t first count p) ≡ length t
@@ -160,7 +169,8 @@ part-in t first count h m l =
 pub range-length : (count : ℕ) (scan : Scan) (t l : List ℕ) → length (rangeRun count scan t l .part) ≡ length t
 unfolding rangeRun
 range-length count scan t l =
-    patched-length t (scan .first) count (scanRun count scan 0 0 (partOf t (scan .first) count) l .part) (run-length count scan 0 0 (partOf t (scan .first) count) l)
+    patched-length t (scan .first) count (scanRun count scan 0 0 (partOf t (scan .first) count) l .part)
+    (run-length count scan 0 0 (partOf t (scan .first) count) l)
 
 module _ (count : ℕ) (scan : Scan) (t l : List ℕ) (fits : 2 * scan .first + 2 * count ≤ length t) where
   abbrev run : List ℕ
@@ -175,7 +185,8 @@ module _ (count : ℕ) (scan : Scan) (t l : List ℕ) (fits : 2 * scan .first + 
   range-out k out = ⊎-elim (λ b. patched-below t (scan .first) count run fits run-size k b) (λ a. patched-above t (scan .first) count run fits run-size k a) out
 
   -- a page of the range keeps them or is listed
-  range-in : (m : ℕ) → m < count → LookedAt (scan .first + m) (scan .clock) (wordsAt t (scan .first + m)) (wordsAt (rangeRun count scan t l .part) (scan .first + m))
+  range-in : (m : ℕ) → m < count → LookedAt (scan .first + m) (scan .clock) (wordsAt t (scan .first + m)) (wordsAt (rangeRun count scan t l .part)
+      (scan .first + m))
   unfolding rangeRun
   range-in m b =
       rw (patched-in t (scan .first) count run fits run-size m b, ← part-in t (scan .first) count fits m b)
@@ -189,7 +200,8 @@ module _ (count : ℕ) (scan : Scan) (t l : List ℕ) (fits : 2 * scan .first + 
       go (yes b) d = inl (range-out k (inl b))
       go (no b) (yes d) =
           let there : scan .first + (k - scan .first) ≡ k = omega (arith, b) in
-          subst (λ (j : ℕ). LookedAt j (scan .clock) (wordsAt t j) (wordsAt (rangeRun count scan t l .part) j)) there (range-in (k - scan .first) (omega (arith, b, d)))
+          subst (λ (j : ℕ). LookedAt j (scan .clock) (wordsAt t j) (wordsAt (rangeRun count scan t l .part) j)) there
+          (range-in (k - scan .first) (omega (arith, b, d)))
       go (no b) (no d) = inl (range-out k (inr (omega (arith, d))))
 
   -- a strange page keeps its words

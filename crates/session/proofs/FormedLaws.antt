@@ -11,7 +11,8 @@ use borrow.Author.Tests.{le-leb, leb-true, lt-ltb, ltb-true, le-ltb, ltb-false, 
 use Rattle.refusals.proofs.Laws.{either, and-left, and-right, not-true, not-false}
 use Rattle.table.specs.Table.{legal, mostPages}
 use Rattle.session.specs.Session.{among, moving, streamPlaces, workAt}
-use Rattle.session.specs.Formed.{lastEpoch, lastEntry, fewestCreated, mostCreated, within, epochIn, workResting, workInRange, usable, someBelow, interrupted, outOfRange, outOfPlace, busy, someOf, malformedCases, formed}
+use Rattle.session.specs.Formed.{lastEpoch, lastEntry, fewestCreated, mostCreated, within, epochIn, workResting, workInRange, usable, someBelow}
+use Rattle.session.specs.Formed.{interrupted, outOfRange, outOfPlace, busy, someOf, malformedCases, formed}
 use Rattle.session.specs.declared.Phase.{Phase}
 use Rattle.session.specs.declared.Phase.the-variants.{Idle, Live, Blackout, Done}
 use Rattle.session.specs.declared.Session.{Session}
@@ -189,7 +190,8 @@ formed-means s len e =
       begun = λ n. within-means _ _ _ (ap not (rw (not-so (among (Idle ∷ []) (s .phase)) (λ y. n (idle-is (s .phase) y))) at epoch));
       created = within-means _ _ _ (ranges .1 .1 .1 .0);
       place = ltb-false _ _ (check .0);
-      complete = λ q. eqb-true _ _ (not-false (eqb (s .check .place) (s .fixed .pages)) (other (s .check .complete) (not (eqb (s .check .place) (s .fixed .pages))) (check .1 .0) q));
+      complete = λ q. eqb-true _ _ (not-false (eqb (s .check .place) (s .fixed .pages))
+          (other (s .check .complete) (not (eqb (s .check .place) (s .fixed .pages))) (check .1 .0) q));
       apart = other (s .check .complete) (s .check .failed) (check .1 .1 .0);
       streams = λ i l.
           run i (workAt s i) (λ q. busy-means s q i l) (none-below (outOfRange s) streamPlaces runs i l)
@@ -205,7 +207,8 @@ formed-means s len e =
         WorkFormed (among moving (s .phase)) (s .fixed .created) i r
     run i AtRest rest range able moves = tt
     run i (Interrupted next last errors filled) rest range able moves =
-        let h = every-hold (leb next last ∷ leb last lastEntry ∷ leb errors next ∷ leb filled next ∷ []) (not-false (workInRange (Interrupted next last errors filled)) range) in
+        let h = every-hold (leb next last ∷ leb last lastEntry ∷ leb errors next ∷ leb filled next ∷ [])
+        (not-false (workInRange (Interrupted next last errors filled)) range) in
         let some = not-false (busy s) (not-so (not (busy s)) (λ q. false≢true (rest (not-true (busy s) q)))) in
         record {
           moving = not-false (among moving (s .phase)) (other (busy s) (not (among moving (s .phase))) moves some);
@@ -252,7 +255,8 @@ means-formed s len f =
 
     in-range : (i : ℕ) (r : Work) → WorkFormed (among moving (s .phase)) (s .fixed .created) i r → not (workInRange r) ≡ false
     in-range i AtRest w = refl
-    in-range i (Interrupted next last errors filled) w = rw (le-leb _ _ (w .ordered), le-leb _ _ (w .short), le-leb _ _ (w .few-errors), le-leb _ _ (w .few-filled))
+    in-range i (Interrupted next last errors filled) w =
+        rw (le-leb _ _ (w .ordered), le-leb _ _ (w .short), le-leb _ _ (w .few-errors), le-leb _ _ (w .few-filled))
 
     able : (i : ℕ) (r : Work) → WorkFormed (among moving (s .phase)) (s .fixed .created) i r → (not (workResting r) && not (usable s i)) ≡ false
     able i AtRest w = refl

@@ -33,7 +33,8 @@ unfolding gated
 gate-first s len phases l = first-then (gateTests s len phases []) l refl
 
 -- a call that is told its gate's code, and with 0 what its own tests give
-pub behind-gate : (s : Session) (len : ℕ) (phases : List Phase) (l m : List Test) (gate : ℕ) → gate ≡ gated s len phases [] → (gate ≡ 0 → firstOf l ≡ firstOf m) → behind gate l ≡ gated s len phases m
+pub behind-gate : (s : Session) (len : ℕ) (phases : List Phase) (l m : List Test) (gate : ℕ) → gate ≡ gated s len phases [] →
+    (gate ≡ 0 → firstOf l ≡ firstOf m) → behind gate l ≡ gated s len phases m
 behind-gate s len phases l m gate e same = rw (gate-first s len phases m, ← e) (go (eqb gate 0) refl)
   where
     go : (b : Bool) → eqb gate 0 ≡ b → cond b (firstOf l) gate ≡ cond b (firstOf m) gate
@@ -41,11 +42,13 @@ behind-gate s len phases l m gate e same = rw (gate-first s len phases m, ← e)
     go false q = refl
 
 -- what holds of the outcome that a call makes and of the one that gives back what came holds of its answer
-pub answered-either : (P : Outcome → Type 0) (code : ℕ) (s : Session) (t : List ℕ) (s' : Session) (t' : List ℕ) → (eqb code 0 ≡ true → P (outcome code s' t')) → (eqb code 0 ≡ false → P (outcome code s t)) → P (answered code s t s' t')
+pub answered-either : (P : Outcome → Type 0) (code : ℕ) (s : Session) (t : List ℕ) (s' : Session) (t' : List ℕ) → (eqb code 0 ≡ true → P (outcome code s' t')) →
+    (eqb code 0 ≡ false → P (outcome code s t)) → P (answered code s t s' t')
 unfolding answered
 answered-either P code s t s' t' made kept = go (eqb code 0) made kept
   where
-    go : (b : Bool) → (b ≡ true → P (outcome code s' t')) → (b ≡ false → P (outcome code s t)) → P (record { answer = record { code = code; session = cond b s' s }; table = cond b t' t })
+    go : (b : Bool) → (b ≡ true → P (outcome code s' t')) → (b ≡ false → P (outcome code s t)) →
+        P (record { answer = record { code = code; session = cond b s' s }; table = cond b t' t })
     go true made kept = made refl
     go false made kept = kept refl
 

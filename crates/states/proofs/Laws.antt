@@ -9,7 +9,8 @@ use lib.Dec.{T, eqb, ltb, lit<}
 use borrow.Author.Tests.{eqb-true, ltb-true}
 use Rattle.words.proofs.ClassLaws.{is-true}
 use Rattle.refusals.proofs.Laws.{either, and-left, and-right}
-use Rattle.states.specs.States.{State, Free, Blocked, Pending, PendingBlocked, Mapped, Exported, ExportedModified, ExportedBlocked, ExportedRemoved, PendingExported, PendingExportedModified, PendingExportedBlocked, Strange}
+use Rattle.states.specs.States.{State, Free, Blocked, Pending, PendingBlocked, Mapped, Exported, ExportedModified, ExportedBlocked, ExportedRemoved}
+use Rattle.states.specs.States.{PendingExported, PendingExportedModified, PendingExportedBlocked, Strange}
 use Rattle.states.specs.States.{numberOf, plainStates, numbered, stateOf, same, isStrange, isIn, Change, hasMove, goesBy, numberBy, Numbered, numberIn}
 use Rattle.states.specs.Lists.{hinted, operated}
 use Rattle.states.proofs.Masks.{all, at}
@@ -59,7 +60,8 @@ numbered-number : (l : List State) (n : ℕ) → same (numbered l n) Strange ≡
 numbered-number [] n = λ e. absurd (true≢false e)
 numbered-number (s ∷ l) n = go (eqb n (numberOf s)) refl (numbered-number l n)
   where
-    go : (b : Bool) → eqb n (numberOf s) ≡ b → (same (numbered l n) Strange ≡ false → numberOf (numbered l n) ≡ n) → same (cond b s (numbered l n)) Strange ≡ false → numberOf (cond b s (numbered l n)) ≡ n
+    go : (b : Bool) → eqb n (numberOf s) ≡ b → (same (numbered l n) Strange ≡ false → numberOf (numbered l n) ≡ n) →
+        same (cond b s (numbered l n)) Strange ≡ false → numberOf (cond b s (numbered l n)) ≡ n
     go true q f x = sym (eqb-true n (numberOf s) q)
     go false q f x = f x
 
@@ -106,7 +108,8 @@ abbrev pub eachPasses : (State → State → Bool) → List Change → Bool
 eachPasses f [] = true
 eachPasses f (c ∷ l) = f (c .from) (c .to) && eachPasses f l
 
-pub each-by : (P : State → State → Type 0) (f : State → State → Bool) → ((z to : State) → f z to ≡ true → P z to) → (l : List Change) → eachPasses f l ≡ true → Each P l
+pub each-by : (P : State → State → Type 0) (f : State → State → Bool) → ((z to : State) → f z to ≡ true → P z to) → (l : List Change) → eachPasses f l ≡ true →
+    Each P l
 each-by P f g [] e = tt
 each-by P f g (c ∷ l) e =
     (g (c .from) (c .to) (and-left (f (c .from) (c .to)) (eachPasses f l) e), each-by P f g l (and-right (f (c .from) (c .to)) (eachPasses f l) e))
@@ -136,7 +139,8 @@ unfolding numberBy goesBy
 number-by [] z = refl
 number-by (c ∷ l) z = go (same z (c .from)) (number-by l z)
   where
-    go : (b : Bool) → numberBy l (numberOf z) ≡ numberOf (goesBy l z) → cond b (numberOf (c .to)) (numberBy l (numberOf z)) ≡ numberOf (cond b (c .to) (goesBy l z))
+    go : (b : Bool) → numberBy l (numberOf z) ≡ numberOf (goesBy l z) →
+        cond b (numberOf (c .to)) (numberBy l (numberOf z)) ≡ numberOf (cond b (c .to) (goesBy l z))
     go true e = refl
     go false e = e
 
@@ -151,7 +155,8 @@ number-below : (n : ℕ) (l : List Numbered) (s : State) → 0 < n → below n l
 unfolding numberIn
 number-below n [] s h e = h
 number-below n (x ∷ l) s h e =
-    either (λ (k : ℕ). k < n) (same s (x .state)) (λ q. ltb-true _ _ (and-left (ltb (x .number) n) (below n l) e)) (λ q. number-below n l s h (and-right (ltb (x .number) n) (below n l) e))
+    either (λ (k : ℕ). k < n) (same s (x .state)) (λ q. ltb-true _ _ (and-left (ltb (x .number) n) (below n l) e))
+    (λ q. number-below n l s h (and-right (ltb (x .number) n) (below n l) e))
 
 pub hint-lt : (s : State) → numberIn hinted s < 2 ^ 2
 hint-lt s = number-below (2 ^ 2) hinted s (lit< tt) refl

@@ -34,11 +34,13 @@ same-number : (f g : ℕ → ℕ) (n : ℕ) → n < 2 ^ 8 → all (λ m. eqb (f 
 same-number f g n h t = eqb→eq (f n) (g n) (at (λ m. eqb (f m) (g m)) n h t)
 
 -- a mask and a list of states
-pub mask-list : {b : Bool} (mask n : ℕ) (l : List State) → b ≡ inMask mask n → n < 2 ^ 8 → all (λ m. alike (inMask mask m) (isIn (stateOf m) l)) → b ≡ isIn (stateOf n) l
+pub mask-list : {b : Bool} (mask n : ℕ) (l : List State) → b ≡ inMask mask n → n < 2 ^ 8 → all (λ m. alike (inMask mask m) (isIn (stateOf m) l)) →
+    b ≡ isIn (stateOf n) l
 mask-list mask n l e h t = e ∙ same-test (inMask mask) (λ m. isIn (stateOf m) l) n h t
 
 -- a packed table and a list of numbers
-pub packed-list : {r : ℕ} (table n : ℕ) (l : List Numbered) → r ≡ packedAt table n → n < 2 ^ 8 → all (λ m. eqb (packedAt table m) (numberIn l (stateOf m))) → r ≡ numberIn l (stateOf n)
+pub packed-list : {r : ℕ} (table n : ℕ) (l : List Numbered) → r ≡ packedAt table n → n < 2 ^ 8 → all (λ m. eqb (packedAt table m) (numberIn l (stateOf m))) →
+    r ≡ numberIn l (stateOf n)
 packed-list table n l e h t = e ∙ same-number (packedAt table) (λ m. numberIn l (stateOf m)) n h t
 
 -- ---- masks and a list of changes
@@ -66,9 +68,11 @@ none = record { same = refl }
 pub picked : {gs : List Group} {r other n : ℕ} (mask to : ℕ) → r ≡ cond (inMask mask n) to other → Picked gs other n → Picked (group mask to ∷ gs) r n
 picked {n = n} mask to e p = record { same = e ∙ ap (cond (inMask mask n) to) (p .same) }
 
-pub picked-list : {gs : List Group} {r : ℕ} (n : ℕ) (l : List Change) → Picked gs r n → n < 2 ^ 8 → all (λ m. eqb (pickedBy gs m) (numberBy l m)) → r ≡ numberBy l n
+pub picked-list : {gs : List Group} {r : ℕ} (n : ℕ) (l : List Change) → Picked gs r n → n < 2 ^ 8 → all (λ m. eqb (pickedBy gs m) (numberBy l m)) →
+    r ≡ numberBy l n
 picked-list {gs} n l p h t = p .same ∙ same-number (pickedBy gs) (numberBy l) n h t
 
 -- a call has a move for a state where it takes the number to another
-pub has-move : (l : List Change) (n : ℕ) → n < 2 ^ 8 → all (λ m. alike (not (eqb (numberBy l m) m)) (hasMove l (stateOf m))) → not (eqb (numberBy l n) n) ≡ hasMove l (stateOf n)
+pub has-move : (l : List Change) (n : ℕ) → n < 2 ^ 8 → all (λ m. alike (not (eqb (numberBy l m) m)) (hasMove l (stateOf m))) →
+    not (eqb (numberBy l n) n) ≡ hasMove l (stateOf n)
 has-move l n h t = same-test (λ m. not (eqb (numberBy l m) m)) (λ m. hasMove l (stateOf m)) n h t

@@ -2,7 +2,8 @@
 use mathlib.Core.List.{List, [], _∷_}
 use Rattle.words.specs.Hints as hints
 use Rattle.words.specs.Operations as operations
-use Rattle.states.specs.States.{State, Free, Blocked, Pending, PendingBlocked, Mapped, Exported, ExportedModified, ExportedBlocked, ExportedRemoved, PendingExported, PendingExportedModified, PendingExportedBlocked}
+use Rattle.states.specs.States.{State, Free, Blocked, Pending, PendingBlocked, Mapped, Exported, ExportedModified, ExportedBlocked, ExportedRemoved}
+use Rattle.states.specs.States.{PendingExported, PendingExportedModified, PendingExportedBlocked}
 use Rattle.states.specs.States.{Change, _⇒_, Numbered, _⟼_}
 
 -- ---- guest and memory calls

@@ -38,7 +38,16 @@ put-same t i w h =
     let in-t : 2 * i < length t = omega arith in
     let in-v : 2 * i + 1 < length v = simp length-set (omega arith) in
     let apart : 2 * i ≡ 2 * i + 1 → ⊥ = λ e. omega arith in
-    rw (lt-ltb i (pageCount t) h, length-set, length-set, lt-ltb i (pageCount t) h, getD-set-other v (2 * i + 1) (2 * i) (w .mark) 0 apart, getD-set-same t (2 * i) (w .word) 0 in-t, getD-set-same v (2 * i + 1) (w .mark) 0 in-v)
+    rw (
+      lt-ltb i (pageCount t) h,
+      length-set,
+      length-set,
+      lt-ltb i (pageCount t) h,
+      getD-set-other v (2 * i + 1) (2 * i) (w .mark) 0 apart,
+      getD-set-same t
+          (2 * i) (w .word) 0 in-t,
+      getD-set-same v (2 * i + 1) (w .mark) 0 in-v,
+    )
 
 pub put-other : (t : List ℕ) (i k : ℕ) (w : PageWords) → (k ≡ i → ⊥) → wordsAt (putAt t i w) k ≡ wordsAt t k
 unfolding wordsAt putAt
@@ -51,7 +60,15 @@ put-other t i k w ne = go (ltb i (pageCount t))
         let b : 2 * k ≡ 2 * i → ⊥ = λ e. ne (omega arith) in
         let c : 2 * k + 1 ≡ 2 * i + 1 → ⊥ = λ e. ne (omega arith) in
         let d : 2 * k + 1 ≡ 2 * i → ⊥ = λ e. omega arith in
-        rw (length-set, length-set, getD-set-other v (2 * i + 1) (2 * k) (w .mark) 0 a, getD-set-other t (2 * i) (2 * k) (w .word) 0 b, getD-set-other v (2 * i + 1) (2 * k + 1) (w .mark) 0 c, getD-set-other t (2 * i) (2 * k + 1) (w .word) 0 d)
+        rw (
+          length-set,
+          length-set,
+          getD-set-other v (2 * i + 1) (2 * k) (w .mark) 0 a,
+          getD-set-other t (2 * i) (2 * k) (w .word) 0 b,
+          getD-set-other v
+              (2 * i + 1) (2 * k + 1) (w .mark) 0 c,
+          getD-set-other t (2 * i) (2 * k + 1) (w .word) 0 d,
+        )
     go false = refl
 
 -- words that are put back where they were, past the end too
@@ -98,7 +115,8 @@ module _ (a b : ℕ) (t : List ℕ) where
       let odd : 2 * suc k + 1 ≡ suc (suc (2 * k + 1)) = omega arith in
       rw (more, ltb-suc k (pageCount t), odd, even) (by (ltb k (pageCount t)))
     where
-      by : (c : Bool) → cond c (a ∷ b ∷ set (set t (2 * k) (w .word)) (2 * k + 1) (w .mark)) (a ∷ b ∷ t) ≡ a ∷ b ∷ cond c (set (set t (2 * k) (w .word)) (2 * k + 1) (w .mark)) t
+      by : (c : Bool) → cond c (a ∷ b ∷ set (set t (2 * k) (w .word)) (2 * k + 1) (w .mark)) (a ∷ b
+          ∷ t) ≡ a ∷ b ∷ cond c (set (set t (2 * k) (w .word)) (2 * k + 1) (w .mark)) t
       by true = refl
       by false = refl
 
@@ -126,7 +144,8 @@ module _ (f : PageWords → PageWords) where
   sweepFirst zero t = t
   sweepFirst (suc n) t = putAt (sweepFirst n t) n (f (wordsAt (sweepFirst n t) n))
 
-  first-behind : (n a b : ℕ) (t : List ℕ) → sweepFirst (suc n) (a ∷ b ∷ t) ≡ f (record { word = a; mark = b }) .word ∷ f (record { word = a; mark = b }) .mark ∷ sweepFirst n t
+  first-behind : (n a b : ℕ) (t : List ℕ) →
+      sweepFirst (suc n) (a ∷ b ∷ t) ≡ f (record { word = a; mark = b }) .word ∷ f (record { word = a; mark = b }) .mark ∷ sweepFirst n t
   first-behind zero a b t = put-first a b t (f (wordsAt (a ∷ b ∷ t) 0)) ∙ ap (λ (w : PageWords). f w .word ∷ f w .mark ∷ t) (at-first a b t)
   first-behind (suc n) a b t =
       let s = sweepFirst n t in
@@ -148,7 +167,8 @@ pub page-swept : (f : Page → Page) → Holds f → (t : List ℕ) (k : ℕ) �
 page-swept f g t k h =
     ap pageOf (sweep-at (onWords f) t k h) ∙ page-moved f (wordsAt t k) (λ e. g (pageAt t k) (read-held (wordsAt t k) e))
 
-pub page-put : (f : Page → Page) (t : List ℕ) (i : ℕ) → i < pageCount t → (strange (pageAt t i) ≡ false → Held (f (pageAt t i))) → pageAt (putAt t i (onWords f (wordsAt t i))) i ≡ unlessStrange f (pageAt t i)
+pub page-put : (f : Page → Page) (t : List ℕ) (i : ℕ) → i < pageCount t → (strange (pageAt t i) ≡ false → Held (f (pageAt t i))) →
+    pageAt (putAt t i (onWords f (wordsAt t i))) i ≡ unlessStrange f (pageAt t i)
 page-put f t i h g = ap pageOf (put-same t i (onWords f (wordsAt t i)) h) ∙ page-moved f (wordsAt t i) g
 
 -- ---- the lowest page of a kind
@@ -174,7 +194,8 @@ module _ (f : Page → Bool) (t : List ℕ) where
   lowest-first zero i k a b = absurd (omega arith)
   lowest-first (suc n) i k a b = go (f (pageAt t i)) refl b (λ x y. lowest-first n (suc i) k x y)
     where
-      go : (c : Bool) → f (pageAt t i) ≡ c → k < cond c i (lowest f n (suc i) t) → (suc i ≤ k → k < lowest f n (suc i) t → f (pageAt t k) ≡ false) → f (pageAt t k) ≡ false
+      go : (c : Bool) → f (pageAt t i) ≡ c → k < cond c i (lowest f n (suc i) t) → (suc i ≤ k → k < lowest f n (suc i) t → f (pageAt t k) ≡ false) →
+          f (pageAt t k) ≡ false
       go true e x r = absurd (omega (arith, x))
       go false e x r = ⊎-elim (λ q. ap (λ (j : ℕ). f (pageAt t j)) (sym q) ∙ e) (λ l. r l x) (eq-or-lt-of-le a)
 
@@ -182,7 +203,8 @@ module _ (f : Page → Bool) (t : List ℕ) where
   lowest-hit zero i h = absurd (omega (arith, h))
   lowest-hit (suc n) i h = go (f (pageAt t i)) refl h (λ x. lowest-hit n (suc i) x)
     where
-      go : (c : Bool) → f (pageAt t i) ≡ c → cond c i (lowest f n (suc i) t) < i + suc n → (lowest f n (suc i) t < suc i + n → f (pageAt t (lowest f n (suc i) t)) ≡ true) → f (pageAt t (cond c i (lowest f n (suc i) t))) ≡ true
+      go : (c : Bool) → f (pageAt t i) ≡ c → cond c i (lowest f n (suc i) t) < i + suc n →
+          (lowest f n (suc i) t < suc i + n → f (pageAt t (lowest f n (suc i) t)) ≡ true) → f (pageAt t (cond c i (lowest f n (suc i) t))) ≡ true
       go true e x r = e
       go false e x r = r (omega (arith, x))
 

@@ -1,4 +1,5 @@
--- Words and bytes: how many there are of each, what is read at each place, and that reading and writing undo each other. A word's bytes are eight in a row, so most laws go by recursion on the words, eight bytes a step.
+-- Words and bytes: how many there are of each, what is read at each place, and that reading and writing undo each other. A word's bytes are eight in a row, so
+-- most laws go by recursion on the words, eight bytes a step.
 use mathlib.Core.Path.{_≡_, refl, sym, ap, _∙_}
 use mathlib.Core.Logic.{⊎-elim}
 use mathlib.Core.Bool.{Bool, true, false, cond}
@@ -96,7 +97,17 @@ half-back : (a b c d : ℕ) → a < 256 → b < 256 → c < 256 → d < 256 → 
 half-back a b c d ha hb hc hd =
     let nested : a + b * 0x100 + c * 0x10000 + d * 0x1000000 ≡ a + 256 * (b + 256 * (c + 256 * d)) = omega arith in
     let last : d % 256 ≡ d = omega arith in
-    rw (nested, digits-left a (b + 256 * (c + 256 * d)) ha, digits-left b (c + 256 * d) hb, digits-left c d hc, digit a (b + 256 * (c + 256 * d)) ha, digit b (c + 256 * d) hb, digit c d hc, last)
+    rw (
+      nested,
+      digits-left a (b + 256 * (c + 256 * d)) ha,
+      digits-left b (c + 256 * d) hb,
+      digits-left c d hc,
+      digit a (b + 256 * (c + 256 * d)) ha,
+      digit b
+          (c + 256 * d) hb,
+      digit c d hc,
+      last,
+    )
 
 -- the bytes of the first word are the first eight
 word-back : (b : List ℕ) → Bytes b → 8 ≤ length b → wordBytes (wordAt b 0) ≡ take 8 b
@@ -115,7 +126,15 @@ words-front b (suc n) y h =
     let more : 8 * suc n ≡ 8 * n + 8 = omega arith in
     let here : wordAt b (8 * n) ≡ wordAt (drop (8 * n) b) 0 = sym (word-drop (8 * n) b 0 ∙ ap (wordAt b) (add-zero (8 * n))) in
     let bytes : Bytes (drop (8 * n) b) = λ i. rw (getD-drop (8 * n) b i 0) (y (8 * n + i)) in
-    rw (bytes-append (upTo (λ i. wordAt b (8 * i)) n) (wordAt b (8 * n) ∷ []), words-front b n y (omega arith), more, take-add (8 * n) 8 b, here, word-back (drop (8 * n) b) bytes (rw (length-drop (8 * n) b) (omega arith)))
+    rw (
+      bytes-append (upTo (λ i. wordAt b (8 * i)) n) (wordAt b (8 * n) ∷ []),
+      words-front b n y (omega arith),
+      more,
+      take-add (8 * n) 8 b,
+      here,
+      word-back
+          (drop (8 * n) b) bytes (rw (length-drop (8 * n) b) (omega arith)),
+    )
 
 pub bytes-back : (b : List ℕ) → Bytes b → length b % 8 ≡ 0 → bytesOf (wordsOf b) ≡ b
 unfolding wordsOf
@@ -133,7 +152,8 @@ put-bytes (y ∷ l) zero x h = refl
 put-bytes (y ∷ l) (suc i) x h =
     rw (eight-more i) (ap (λ (r : List ℕ). wordBytes y ++ r) (put-bytes l i x (le-of-suc-le-suc h)))
 
-put-two : (v : List ℕ) (i x m : ℕ) → 2 * i + 1 < length v → putWord (putWord (bytesOf v) (16 * i) x) (16 * i + 8) m ≡ bytesOf (set (set v (2 * i) x) (2 * i + 1) m)
+put-two : (v : List ℕ) (i x m : ℕ) → 2 * i + 1 < length v →
+    putWord (putWord (bytesOf v) (16 * i) x) (16 * i + 8) m ≡ bytesOf (set (set v (2 * i) x) (2 * i + 1) m)
 put-two v i x m h =
     let first : 16 * i ≡ 8 * (2 * i) = omega arith in
     let second : 16 * i + 8 ≡ 8 * (2 * i + 1) = omega arith in
@@ -145,10 +165,13 @@ page-bytes b i w y h =
     let same : length (wordsOf b) / 2 ≡ length b / 16 = rw (words-length b) (omega arith) in
     rw same (go (ltb i (length b / 16)) refl)
   where
-    go : (c : Bool) → ltb i (length b / 16) ≡ c → cond c (putWord (putWord b (16 * i) (w .word)) (16 * i + 8) (w .mark)) b ≡ bytesOf (cond c (set (set (wordsOf b) (2 * i) (w .word)) (2 * i + 1) (w .mark)) (wordsOf b))
+    go : (c : Bool) → ltb i (length b / 16) ≡ c →
+        cond c (putWord (putWord b (16 * i) (w .word)) (16 * i + 8) (w .mark)) b ≡ bytesOf
+        (cond c (set (set (wordsOf b) (2 * i) (w .word)) (2 * i + 1) (w .mark)) (wordsOf b))
     go true q =
         let inside : i < length b / 16 = ltb-true _ _ q in
-        ap (λ (r : List ℕ). putWord (putWord r (16 * i) (w .word)) (16 * i + 8) (w .mark)) (sym (bytes-back b y h)) ∙ put-two (wordsOf b) i (w .word) (w .mark) (rw (words-length b) (omega arith))
+        ap (λ (r : List ℕ). putWord (putWord r (16 * i) (w .word)) (16 * i + 8) (w .mark)) (sym (bytes-back b y h))
+        ∙ put-two (wordsOf b) i (w .word) (w .mark) (rw (words-length b) (omega arith))
     go false q = sym (bytes-back b y h)
 
 -- ---- what is put into words stays words, so that a page that was put is read
@@ -189,7 +212,8 @@ put-small t i w h k m = go (ltb i (length t / 2))
     go true = words-set (set t (2 * i) (w .word)) (2 * i + 1) (w .mark) (words-set t (2 * i) (w .word) h k) m
     go false = h
 
-pub words-put : (b : List ℕ) (i : ℕ) (w : PageWords) → Bytes b → length b % 8 ≡ 0 → w .word < 0x10000000000000000 → w .mark < 0x10000000000000000 → wordsOf (putPage b i w) ≡ putAt (wordsOf b) i w
+pub words-put : (b : List ℕ) (i : ℕ) (w : PageWords) → Bytes b → length b % 8 ≡ 0 → w .word < 0x10000000000000000 → w .mark < 0x10000000000000000 →
+    wordsOf (putPage b i w) ≡ putAt (wordsOf b) i w
 words-put b i w y h k m =
     ap wordsOf (page-bytes b i w y h) ∙ words-back (putAt (wordsOf b) i w) (put-small (wordsOf b) i w (words-small b y) k m)
 

@@ -32,4 +32,12 @@ zeros-bytes (suc n) (suc i) = zeros-bytes n i
 
 pub met : Met
 unfolding formed busy legal fits wordsOf wordAt
-met = record { formed = refl; numbers = formed-numbers (newSession 1 2) 2 refl; streams = refl; bytes = zeros-bytes (8 * sessionLength); long = refl; fits = refl }
+met = record {
+  formed = refl;
+  numbers = formed-numbers (newSession 1 2) 2 refl;
+  streams = refl;
+  bytes = zeros-bytes (8 * sessionLength);
+  long = refl;
+  fits =
+      refl;
+}

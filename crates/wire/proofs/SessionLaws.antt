@@ -148,7 +148,14 @@ five-more : (k : ℕ) → 5 * suc k ≡ suc (suc (suc (suc (suc (5 * k)))))
 five-more k = omega arith
 
 -- the words at a place are those of what begins there
-words-at : (w : List ℕ) (at : ℕ) → fiveOf (drop at w) ≡ record { flag = getD w at 0; next = getD w (at + 1) 0; last = getD w (at + 2) 0; errors = getD w (at + 3) 0; filled = getD w (at + 4) 0 }
+words-at : (w : List ℕ) (at : ℕ) → fiveOf (drop at w) ≡ record {
+  flag = getD w at 0;
+  next = getD w (at + 1) 0;
+  last = getD w (at + 2) 0;
+  errors =
+      getD w (at + 3) 0;
+  filled = getD w (at + 4) 0;
+}
 words-at w at = rw (getD-drop at w 0 0, getD-drop at w 1 0, getD-drop at w 2 0, getD-drop at w 3 0, getD-drop at w 4 0, add-zero at)
 
 five-of : (l : List ℕ) → 5 ≤ length l → five (fiveOf l) ≡ take 5 l
@@ -201,7 +208,8 @@ read-work w i h =
     let f : ℕ → Stream = λ k. streamAt w (streamPlace k) in
     rw (lt-ltb i streamPlaces h) (ap (λ (x : Stream). x .work) (up-at f resting streamPlaces i h ∙ ap meant (sym (words-at w (streamPlace i)))))
 
-streams-from : (w : List ℕ) (n i : ℕ) → i + n ≡ streamPlaces → streamPlace streamPlaces ≤ length w → streamsFit w ≡ true → streamsFrom (sessionOf w) n i ≡ take (5 * n) (drop (streamPlace i) w)
+streams-from : (w : List ℕ) (n i : ℕ) → i + n ≡ streamPlaces → streamPlace streamPlaces ≤ length w → streamsFit w ≡ true →
+    streamsFrom (sessionOf w) n i ≡ take (5 * n) (drop (streamPlace i) w)
 streams-from w zero i e h f = refl
 streams-from w (suc n) i e h f =
     let at = streamPlace i in
@@ -234,7 +242,8 @@ session-back s e = session-same s (phase-back (s .phase)) (check-back (s .check)
 pub session-fits : (s : Session) → fits (sessionWords s) ≡ true
 unfolding fits sessionWords
 session-fits s =
-    let check = hold-every (leb (bitOf (s .check .complete)) 1 ∷ leb (bitOf (s .check .failed)) 1 ∷ []) (bit-fits (s .check .complete), (bit-fits (s .check .failed), tt)) in
+    let check = hold-every (leb (bitOf (s .check .complete)) 1 ∷ leb (bitOf (s .check .failed)) 1
+    ∷ []) (bit-fits (s .check .complete), (bit-fits (s .check .failed), tt)) in
     hold-every (ownFits (sessionWords s) ∷ checkFits (sessionWords s) ∷ streamsFit (sessionWords s) ∷ []) (phase-fits (s .phase), (check, (streams-fit s, tt)))
 
 pub layout-back : (w : List ℕ) → length w ≡ sessionLength → fits w ≡ true → sessionWords (sessionOf w) ≡ w
@@ -279,8 +288,16 @@ streams-words s (suc n) i h = work-words (workOf s i) (streamsFrom s n (suc i)) 
 pub session-words : (s : Session) → Numbers s → Words (sessionWords s)
 unfolding sessionWords
 session-words s h =
-    all-words (sessionWords s)
-    (phase-word (s .phase), (h .pages, (h .tlb, (h .epoch, (h .created, (h .place, (bit-word (s .check .complete), (bit-word (s .check .failed), streams-words s streamPlaces 0 h))))))))
+    all-words (sessionWords s) (
+      phase-word (s .phase),
+      (
+        h .pages,
+        (
+          h .tlb,
+          (h .epoch, (h .created, (h .place, (bit-word (s .check .complete), (bit-word (s .check .failed), streams-words s streamPlaces 0 h))))),
+        ),
+      ),
+    )
 
 -- a well-formed session has such numbers
 pub formed-numbers : (s : Session) (len : ℕ) → formed s len ≡ true → Numbers s

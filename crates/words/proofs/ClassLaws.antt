@@ -26,7 +26,8 @@ every f (x ∷ xs) = f x && every f xs
 
 every-at : (f : ℕ → Bool) (xs : List ℕ) (n : ℕ) → T (every f xs) → T (isIn n xs) → T (f n)
 every-at f [] n t h = absurd h
-every-at f (x ∷ xs) n t h = go (eqb n x) (λ e. subst (λ (m : ℕ). T (f m)) (sym (eqb→eq n x e)) (both (f x) (every f xs) t .0)) (every-at f xs n (both (f x) (every f xs) t .1)) h
+every-at f (x ∷ xs) n t h = go (eqb n x) (λ e. subst (λ (m : ℕ). T (f m)) (sym (eqb→eq n x e)) (both (f x) (every f xs) t .0)) (every-at f xs n (both (f x)
+    (every f xs) t .1)) h
   where
     go : (b : Bool) → (T b → T (f n)) → (T (isIn n xs) → T (f n)) → T (b || isIn n xs) → T (f n)
     go true p q u = p tt

@@ -56,8 +56,16 @@ entry =
       low-runs = λ e. ap (set (runs (loweredEntry e)) 1) (bit-low (e .pending));
       of-runs = λ e. ap (withPending e) (flag-bit (e .pending));
       runs-of = λ w. ap (set (split 0 widths w) 1) (bit-flag (bits w 2 2) (bits-lt w 2 2));
-      fit = λ e f.
-          (f .level, (bit-lt (e .pending), (f .state, (f .reserved5, (f .«l2_map», (f .«mig_type», (f .gpa, (f .operation, (f .reserved54, (f .status, (f .reserved61, tt)))))))))));
+      fit = λ e f. (
+        f .level,
+        (
+          bit-lt (e .pending),
+          (
+            f .state,
+            (f .reserved5, (f .«l2_map», (f .«mig_type», (f .gpa, (f .operation, (f .reserved54, (f .status, (f .reserved61, tt)))))))),
+          ),
+        ),
+      );
       fits = entry-fits;
     }
 

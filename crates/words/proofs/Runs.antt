@@ -4,7 +4,8 @@ use mathlib.Core.Path.{_≡_, refl, sym, ap, ap₂, _∙_, subst}
 use mathlib.Core.Bool.{Bool, true, false}
 use mathlib.Core.List.{List, [], _∷_}
 use Prim.Native.Nat.{ℕ, zero, suc, _+_, _-_, _*_, _/_, _%_, _^_, _<_, _≤_}
-use native.Mathlib.Nat.{add-comm, add-assoc, add-zero, add-mul, mul-assoc, mul-comm, mul-one, zero-mul, div-one, mod-lt, mod-eq-of-lt, le-of-suc-le-suc, not-suc-le-zero}
+use native.Mathlib.Nat.{add-comm, add-assoc, add-zero, add-mul, mul-assoc, mul-comm, mul-one, zero-mul, div-one, mod-lt, mod-eq-of-lt, le-of-suc-le-suc}
+use native.Mathlib.Nat.{not-suc-le-zero}
 use native.Mathlib.Omega.{arith}
 use lib.Arith.{digits-lt, lt-one}
 use lib.Bits.{bitAnd, bitOr, and-block, and-mask, and-zero-r, or-block, or-shifted, or-zero-r}

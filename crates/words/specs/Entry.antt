@@ -68,7 +68,8 @@ entry level pending state reserved5 l2Map migType gpa operation reserved54 statu
 -- the entry with each field's low bits
 abbrev pub loweredEntry : Entry → Entry
 loweredEntry e =
-    entry (low 2 (e .level)) (e .pending) (low 2 (e .state)) (low 2 (e .reserved5)) (low 3 (e .«l2_map»)) (low 2 (e .«mig_type»)) (low 40 (e .gpa)) (low 2 (e .operation)) (low 2 (e .reserved54)) (low 5 (e .status)) (low 3 (e .reserved61))
+    entry (low 2 (e .level)) (e .pending) (low 2 (e .state)) (low 2 (e .reserved5)) (low 3 (e .«l2_map»)) (low 2 (e .«mig_type»)) (low 40 (e .gpa))
+    (low 2 (e .operation)) (low 2 (e .reserved54)) (low 5 (e .status)) (low 3 (e .reserved61))
 
 -- the entry with another value in one field, and the rest as it was
 abbrev pub withLevel : Entry → ℕ → Entry

@@ -5,7 +5,8 @@ use Prim.Native.Nat.{ℕ, _+_, _-_, _*_, _/_, _^_, _<_}
 use lib.Dec.{T, eqb}
 use Rattle.words.specs.Runs.{bits, low}
 use Rattle.words.specs.Class.{stands, classOf}
-use Rattle.words.specs.Entry.{entryOf, entryWord, loweredEntry, EntryFits, withLevel, withPending, withState, withL2Map, withMigType, withGpa, withOperation, withStatus}
+use Rattle.words.specs.Entry.{entryOf, entryWord, loweredEntry, EntryFits, withLevel, withPending, withState, withL2Map, withMigType, withGpa}
+use Rattle.words.specs.Entry.{withOperation, withStatus}
 use Rattle.words.specs.Info.{infoOf, infoWord, loweredInfo, InfoFits, withFormat, withFirst, withHpa, withLast}
 use Rattle.words.specs.declared.classes.Class.{Class}
 use Rattle.words.specs.declared.classes.Class.the-variants.{Free, NonLeaf, Leaf, Unlisted}
@@ -54,7 +55,20 @@ pub record InfoPromises : Type 0 where
 -- the entry that names page i and says nothing else
 abbrev pub addressed : ℕ → Entry
 addressed i =
-    record { level = 0; pending = false; state = 0; reserved5 = 0; «l2_map» = 0; «mig_type» = 0; gpa = i; operation = 0; reserved54 = 0; status = 0; reserved61 = 0 }
+    record {
+      level = 0;
+      pending = false;
+      state = 0;
+      reserved5 = 0;
+      «l2_map» = 0;
+      «mig_type» = 0;
+      gpa = i;
+      operation = 0;
+      reserved54 = 0;
+      status =
+          0;
+      reserved61 = 0;
+    }
 
 -- page i has byte address 4,096·i
 pub record PageAddress : Type 0 where

@@ -26,7 +26,8 @@ returns c =
     let w = start .args .w in
     let epoch = low 16 (start .args .epoch) in
     λ e q.
-    words-set (λ (r : Record). withMigrated (withState r (numberOf (goesBy exports (pageOf w .state)))) epoch) w _ (exportedPage (start .args .epoch) (pageOf w)) (search needs) e
+    words-set (λ (r : Record). withMigrated (withState r (numberOf (goesBy exports (pageOf w .state)))) epoch) w _
+    (exportedPage (start .args .epoch) (pageOf w)) (search needs) e
     (c .set-migrated .ensures ∙ ap (λ (r : Record). withMigrated r epoch) (c .before .set-state .ensures ∙ ap (withState (recordOf (w .word))) q))
     (ap (λ (r : Record). withMigrated r epoch) (sym (lowered-fits (exportedPage 0 (pageOf w)) (read-held w e .stamp) (lit< tt))))
 

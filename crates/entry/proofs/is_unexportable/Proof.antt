@@ -24,7 +24,13 @@ is-sent-requires c κs = search needs
 
 returns : tie.Need-returns
 unfolding pageOf unexportable
-returns c = rw (← c .before .before .before .before .before .state-of .ensures .1, ← c .before .is-sent .ensures, ← c .before .before .is-barred .ensures, ← c .before .before .before .is-strange .ensures, ← ap (λ (x : Record). x .dirty) (c .before .before .before .before .record-of .ensures .0))
+returns c = rw (
+  ← c .before .before .before .before .before .state-of .ensures .1,
+  ← c .before .is-sent .ensures,
+  ← c .before .before .is-barred .ensures,
+  ← c .before .before .before .is-strange .ensures,
+  ← ap (λ (x : Record). x .dirty) (c .before .before .before .before .record-of .ensures .0),
+)
 
 pub is-unexportable-spec : {M : Type 1} → statement M
 is-unexportable-spec = tie.close (tie.spec state-of-requires record-of-requires is-strange-requires is-barred-requires is-sent-requires returns)

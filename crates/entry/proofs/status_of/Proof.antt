@@ -39,7 +39,8 @@ tests c =
     ∷ at-able c .is-unexportable .result gives statuses.septEntryStateIncorrect
     ∷ eqb (at-record c .record-of .result .migrated) (start c .args .g .epoch) gives statuses.migratedInCurrentEpoch
     ∷ (not (at-cancelled c .is-cancelled .result) && at-record c .record-of .result .dirty) gives statuses.pageDirty
-    ∷ (not (at-cancelled c .is-cancelled .result) && at-invalid c .before .before .comes-in .result .live && not (at-invalid c .before .is-tracked .result)) gives statuses.tlbTrackingNotDone
+    ∷ (not (at-cancelled c .is-cancelled .result) && at-invalid c .before .before .comes-in .result .live && not
+    (at-invalid c .before .is-tracked .result)) gives statuses.tlbTrackingNotDone
     ∷ []
 
 tested : (c : tie.After-struct-known7) → statusOf (start c .args .e) (pageOf (start c .args .w)) (start c .args .g) ≡ firstOf (tests c)
@@ -47,7 +48,18 @@ unfolding statusOf
 tested c =
     let invalid = at-invalid c in
     let read = read-fields (start c .args .w) _ (at-record c .record-of .ensures .0) in
-    rw (← invalid .is-invalid .ensures, ← at-able c .is-unexportable .ensures, ← read .stamp, ← invalid .before .is-tracked .ensures, ← at-cancelled c .before .state-of .ensures .1, ← at-cancelled c .is-cancelled .ensures, ← read .migrated, ← read .dirty, ← ap (λ (x : Comes). x .live) (invalid .before .before .comes-in .ensures))
+    rw (
+      ← invalid .is-invalid .ensures,
+      ← at-able c .is-unexportable .ensures,
+      ← read .stamp,
+      ← invalid .before .is-tracked .ensures,
+      ← at-cancelled c .before .state-of .ensures .1,
+      ← at-cancelled c .is-cancelled .ensures,
+      ← read .migrated,
+      ← read .dirty,
+      ← ap (λ (x : Comes). x .live)
+          (invalid .before .before .comes-in .ensures),
+    )
 
 record-of-requires : tie.Need-record-of-requires
 record-of-requires c κs = search needs
@@ -77,22 +89,56 @@ returns-2 : tie.Need-returns-2
 returns-2 c = sym (tested (c .before .before) ∙ reached (tests (c .before .before)) 1 (c .before .if1 .left, c .if2 .taken))
 
 returns-3 : tie.Need-returns-3
-returns-3 c = sym (tested (c .before .before .before) ∙ reached (tests (c .before .before .before)) 2 (c .before .before .if1 .left, (c .before .if2 .left, c .if3 .taken)))
+returns-3 c = sym (tested (c .before .before .before)
+    ∙ reached (tests (c .before .before .before)) 2 (c .before .before .if1 .left, (c .before .if2 .left, c .if3 .taken)))
 
 returns-4 : tie.Need-returns-4
-returns-4 c = sym (tested (c .before .before .before .before) ∙ reached (tests (c .before .before .before .before)) 3 (c .before .before .before .if1 .left, (c .before .before .if2 .left, (c .before .if3 .left, c .if4 .taken))))
+returns-4 c = sym (tested (c .before .before .before .before)
+    ∙ reached (tests (c .before .before .before .before)) 3
+    (c .before .before .before .if1 .left, (c .before .before .if2 .left, (c .before .if3 .left, c .if4 .taken))))
 
 returns-5 : tie.Need-returns-5
-returns-5 c = sym (tested (c .before .before .before .before .before) ∙ reached (tests (c .before .before .before .before .before)) 4 (c .before .before .before .before .if1 .left, (c .before .before .before .if2 .left, (c .before .before .if3 .left, (c .before .if4 .left, c .if5 .taken)))))
+returns-5 c = sym (tested (c .before .before .before .before .before)
+    ∙ reached (tests (c .before .before .before .before .before)) 4 (
+      c .before .before .before .before .if1 .left,
+      (c .before .before .before .if2 .left, (c .before .before .if3 .left, (c .before .if4 .left, c .if5 .taken))),
+    ))
 
 returns-6 : tie.Need-returns-6
-returns-6 c = sym (tested (c .before .before .before .before .before .before) ∙ reached (tests (c .before .before .before .before .before .before)) 5 (c .before .before .before .before .before .if1 .left, (c .before .before .before .before .if2 .left, (c .before .before .before .if3 .left, (c .before .before .if4 .left, (c .before .if5 .left, c .if6 .taken))))))
+returns-6 c = sym (tested (c .before .before .before .before .before .before)
+    ∙ reached (tests (c .before .before .before .before .before .before)) 5 (
+      c .before .before .before .before .before .if1 .left,
+      (
+        c .before .before .before .before .if2 .left,
+        (c .before .before .before .if3 .left, (c .before .before .if4 .left, (c .before .if5 .left, c .if6 .taken))),
+      ),
+    ))
 
 returns-7 : tie.Need-returns-7
-returns-7 c = sym (tested (c .before .before .before .before .before .before .before) ∙ reached (tests (c .before .before .before .before .before .before .before)) 6 (c .before .before .before .before .before .before .if1 .left, (c .before .before .before .before .before .if2 .left, (c .before .before .before .before .if3 .left, (c .before .before .before .if4 .left, (c .before .before .if5 .left, (c .before .if6 .left, c .if7 .taken)))))))
+returns-7 c = sym (tested (c .before .before .before .before .before .before .before)
+    ∙ reached (tests (c .before .before .before .before .before .before .before)) 6 (
+      c .before .before .before .before .before .before .if1 .left,
+      (
+        c .before .before .before .before .before .if2 .left,
+        (
+          c .before .before .before .before .if3 .left,
+          (c .before .before .before .if4 .left, (c .before .before .if5 .left, (c .before .if6 .left, c .if7 .taken))),
+        ),
+      ),
+    ))
 
 returns-8 : tie.Need-returns-8
-returns-8 c = sym (tested (c .before .before .before .before .before .before .before) ∙ passed-code (tests (c .before .before .before .before .before .before .before)) (c .before .before .before .before .before .before .if1 .left, (c .before .before .before .before .before .if2 .left, (c .before .before .before .before .if3 .left, (c .before .before .before .if4 .left, (c .before .before .if5 .left, (c .before .if6 .left, (c .if7 .left, tt))))))))
+returns-8 c = sym (tested (c .before .before .before .before .before .before .before)
+    ∙ passed-code (tests (c .before .before .before .before .before .before .before)) (
+      c .before .before .before .before .before .before .if1 .left,
+      (
+        c .before .before .before .before .before .if2 .left,
+        (
+          c .before .before .before .before .if3 .left,
+          (c .before .before .before .if4 .left, (c .before .before .if5 .left, (c .before .if6 .left, (c .if7 .left, tt)))),
+        ),
+      ),
+    ))
 
 pub status-of-spec : {M : Type 1} → statement M
 status-of-spec =

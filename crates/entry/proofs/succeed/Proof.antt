@@ -28,7 +28,16 @@ export-words-requires c κs = search needs
 
 returns : tie.Need-returns
 unfolding sentEntry pageOf
-returns c = rw (c .export-words .ensures, c .before .buffer-word .ensures, c .before .before .answer-word .ensures, ← c .before .before .before .before .before .before .state-of .ensures .1, ← c .before .before .before .is-data .ensures, ← c .before .before .before .before .operation-of .ensures, ← c .before .before .before .before .before .is-pending .ensures)
+returns c = rw (
+  c .export-words .ensures,
+  c .before .buffer-word .ensures,
+  c .before .before .answer-word .ensures,
+  ← c .before .before .before .before .before .before .state-of .ensures .1,
+  ← c .before .before .before .is-data .ensures,
+  ← c .before .before .before .before .operation-of .ensures,
+  ← c .before .before .before .before .before .is-pending .ensures,
+)
 
 pub succeed-spec : {M : Type 1} → statement M
-succeed-spec = tie.close (tie.spec state-of-requires is-pending-requires operation-of-requires is-data-requires answer-word-requires buffer-word-requires export-words-requires returns)
+succeed-spec = tie.close (tie.spec state-of-requires is-pending-requires operation-of-requires is-data-requires answer-word-requires buffer-word-requires
+    export-words-requires returns)

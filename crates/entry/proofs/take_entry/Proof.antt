@@ -16,14 +16,24 @@ succeed-requires c κs = search needs
 
 returns : tie.Need-returns
 unfolding takenOf
-returns c = rw (← c .before .before .before .entry-of .ensures .0, ← c .before .before .status-of .ensures, eq-eqb _ _ (c .before .if1 .taken)) (c .succeed .ensures)
+returns c = rw (
+  ← c .before .before .before .entry-of .ensures .0,
+  ← c .before .before .status-of .ensures,
+  eq-eqb _ _
+      (c .before .if1 .taken),
+) (c .succeed .ensures)
 
 fail-requires : tie.Need-fail-requires
 fail-requires c κs = search needs
 
 returns-2 : tie.Need-returns-2
 unfolding takenOf
-returns-2 c = rw (← c .before .before .before .entry-of .ensures .0, ← c .before .before .status-of .ensures, ne-eqb _ _ (c .before .if1 .left)) (c .fail .ensures)
+returns-2 c = rw (
+  ← c .before .before .before .entry-of .ensures .0,
+  ← c .before .before .status-of .ensures,
+  ne-eqb _ _
+      (c .before .if1 .left),
+) (c .fail .ensures)
 
 pub take-entry-spec : {M : Type 1} → statement M
 take-entry-spec = tie.close (tie.spec entry-of-requires status-of-requires succeed-requires returns fail-requires returns-2)

@@ -14,10 +14,14 @@ use Rattle.export.proofs.export.Statement.{statement}
 use Rattle.export.proofs.export.Tie as tie
 
 -- past the tests, where the call goes on
-go-on : (c : tie.After-begin) → Ready (length (now (c .before .before .before .before .before .before .before .before .before .args .list))) (length (now (c .before .before .before .before .before .before .before .before .before .args .buffer))) (workOf (c .before .before .before .before .before .before .before .before .before .args .s) (c .before .before .before .before .before .before .before .before .before .args .stream)) (c .before .before .before .before .before .info-of .result)
+go-on : (c : tie.After-begin) → Ready (length (now (c .before .before .before .before .before .before .before .before .before .args .list))) (length
+    (now (c .before .before .before .before .before .before .before .before .before .args .buffer)))
+    (workOf (c .before .before .before .before .before .before .before .before .before .args .s)
+    (c .before .before .before .before .before .before .before .before .before .args .stream)) (c .before .before .before .before .before .info-of .result)
 go-on c = export-ready _ _ _ _ _ _ _ (sym (c .before .before .before .before .export-code .ensures) ∙ c .before .before .before .if1 .left)
 
-begun : (c : tie.After-begin) → c .begin .result ≡ begunBy (workOf (c .before .before .before .before .before .before .before .before .before .args .s) (c .before .before .before .before .before .before .before .before .before .args .stream))
+begun : (c : tie.After-begin) → c .begin .result ≡ begunBy (workOf (c .before .before .before .before .before .before .before .before .before .args .s)
+    (c .before .before .before .before .before .before .before .before .before .args .stream))
 begun c = c .begin .ensures ∙ ap begunBy (c .before .work-of .ensures)
 
 info-of-requires : tie.Need-info-of-requires
@@ -52,8 +56,10 @@ finish-requires c κs =
     let at-begin = at-run-entries .before .before .before .before in
     let ready = go-on at-begin in
     let start = at-begin .before .before .before .before .before .before .before .before .before in
-    let from = standing (begunBy (workOf (start .args .s) (start .args .stream))) (now (start .args .table)) (now (start .args .list)) (now (start .args .buffer)) in
-    let bounds = run-bounds (exportStep (at-begin .before .before .ground-of .result)) (at-begin .before .before .before .before .before .info-of .result .last) (start .args .budget) from (record { next = below-next _ _ (ready .ordered); counts = ready .counts }) in
+    let from = standing (begunBy (workOf (start .args .s) (start .args .stream))) (now (start .args .table)) (now (start .args .list)) (now
+    (start .args .buffer)) in
+    let bounds = run-bounds (exportStep (at-begin .before .before .ground-of .result)) (at-begin .before .before .before .before
+    .before .info-of .result .last) (start .args .budget) from (record { next = below-next _ _ (ready .ordered); counts = ready .counts }) in
     let ended = at-run-entries .run-entries .ensures .0 in
     (ready .short, rw (ended, begun at-begin) (bounds .next), rw (ended, begun at-begin) (bounds .counts .filled))
 
@@ -77,7 +83,15 @@ returns-2 c =
     let at-export-code = at-if1 .before in
     let at-info-of = at-export-code .before in
     let ran = at-run-entries .run-entries .ensures in
-    rw (← at-info-of .info-of .ensures .0, ← at-export-code .export-code .ensures, eq-eqb _ _ (at-if1 .if1 .left), ← at-ground-of .ground-of .ensures, ← at-work-of .work-of .ensures, ← at-begin .begin .ensures)
+    rw (
+      ← at-info-of .info-of .ensures .0,
+      ← at-export-code .export-code .ensures,
+      eq-eqb _ _
+          (at-if1 .if1 .left),
+      ← at-ground-of .ground-of .ensures,
+      ← at-work-of .work-of .ensures,
+      ← at-begin .begin .ensures,
+    )
     (rw (← ran .0) (c .finish .ensures), (ran .1 .0, (ran .1 .1 .0, ran .1 .1 .1)))
 
 pub export-spec : {M : Type 1} → statement M

@@ -1,4 +1,5 @@
--- In the layouts and in whole words it is the engine's call (`host-played`, by `play_lists`); what is no list is refused in its place (`no-list`), and any other bytes with 40.
+-- In the layouts and in whole words it is the engine's call (`host-played`, by `play_lists`); what is no list is refused in its place (`no-list`), and any
+-- other bytes with 40.
 use borrow.Author.Needs.{needs}
 use mathlib.Core.Path.{refl, sym, _∙_}
 use mathlib.Core.Bool.{_&&_}
@@ -61,7 +62,11 @@ returns c =
     let a = start .args in
     let x = lentAll (now (a .session)) (now (a .table)) (now (a .list)) (now (a .buffer)) (a .resume) in
     let words = rw (at-list .is-list .ensures, at-list2 .is-list2 .ensures) at (at-if2 .if2 .taken) in
-    rw (host-played (a .call) x (start .pre .reads) (sym (at-read .read .ensures .0) ∙ at-if1 .if1 .taken) words, ← at-read .read .ensures .1 (at-if1 .if1 .taken)) (at-play .play-lists .ensures)
+    rw (
+      host-played (a .call) x (start .pre .reads) (sym (at-read .read .ensures .0) ∙ at-if1 .if1 .taken) words,
+      ← at-read .read .ensures .1
+          (at-if1 .if1 .taken),
+    ) (at-play .play-lists .ensures)
 
 first-group-requires : tie.Need-first-group-requires
 first-group-requires c κs = search needs
@@ -85,7 +90,8 @@ returns-2 c =
     let x = lentAll (now (a .session)) (now (a .table)) (now (a .list)) (now (a .buffer)) (a .resume) in
     let layout = read-layout (a .call) x (start .pre .reads) ∙ sym (at-read .read .ensures .0) ∙ at-if1 .if1 .taken in
     let none = rw (at-list .is-list .ensures, at-list2 .is-list2 .ensures) at (at-if2 .if2 .left) in
-    rw (no-list (a .call) (phasesOf (a .when)) x (start .pre) layout none, ← at-read .read .ensures .1 (at-if1 .if1 .taken), ← at-group .first-group .ensures) (c .code-alone .ensures, (refl, (refl, (refl, refl))))
+    rw (no-list (a .call) (phasesOf (a .when)) x (start .pre) layout none, ← at-read .read .ensures .1 (at-if1 .if1 .taken), ← at-group .first-group .ensures)
+    (c .code-alone .ensures, (refl, (refl, (refl, refl))))
 
 code-alone-requires-2 : tie.Need-code-alone-requires-2
 code-alone-requires-2 c κs = search needs
@@ -100,7 +106,8 @@ returns-3 c =
     let start = at-read .before .before .before .before .before .before in
     let a = start .args in
     let x = lentAll (now (a .session)) (now (a .table)) (now (a .list)) (now (a .buffer)) (a .resume) in
-    rw (host-refused (a .call) x (start .pre .reads) (sym (at-read .read .ensures .0) ∙ at-if1 .if1 .left)) (c .code-alone2 .ensures, (refl, (refl, (refl, refl))))
+    rw (host-refused (a .call) x (start .pre .reads) (sym (at-read .read .ensures .0) ∙ at-if1 .if1 .left))
+    (c .code-alone2 .ensures, (refl, (refl, (refl, refl))))
 
 pub with-lists-spec : {M : Type 1} → statement M
 with-lists-spec =

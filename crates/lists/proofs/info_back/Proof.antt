@@ -24,7 +24,8 @@ returns : tie.Need-returns
 unfolding infoBack
 returns c =
     let x = c .before .before .before .before .args .x in
-    rw (sym (c .before .before .before .is-over .ensures) ∙ c .before .before .if1 .taken) (c .info-from .ensures ∙ ap (λ (n : ℕ). infoWord (withFirst x n)) (wraps (x .last)))
+    rw (sym (c .before .before .before .is-over .ensures) ∙ c .before .before .if1 .taken)
+    (c .info-from .ensures ∙ ap (λ (n : ℕ). infoWord (withFirst x n)) (wraps (x .last)))
 
 info-from-requires-2 : tie.Need-info-from-requires-2
 info-from-requires-2 c κs = search needs

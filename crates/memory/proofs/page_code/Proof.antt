@@ -19,7 +19,14 @@ returns c =
     let at-is-formed = c .before .before .before .before in
     let at-is-block = at-is-formed .before in
     let at-comes-in = at-is-block .before in
-    rw (← at-is-formed .is-formed .ensures, ← at-is-block .is-block .ensures, ← ap (λ (x : Comes). x .blackout) (at-comes-in .comes-in .ensures), ← ap (λ (x : Comes). x .guest) (at-comes-in .comes-in .ensures), c .if1 .taken)
+    rw (
+      ← at-is-formed .is-formed .ensures,
+      ← at-is-block .is-block .ensures,
+      ← ap (λ (x : Comes). x .blackout) (at-comes-in .comes-in .ensures),
+      ← ap
+          (λ (x : Comes). x .guest) (at-comes-in .comes-in .ensures),
+      c .if1 .taken,
+    )
 
 returns-2 : tie.Need-returns-2
 returns-2 c =
@@ -27,7 +34,15 @@ returns-2 c =
     let at-is-formed = at-if1 .before .before .before .before in
     let at-is-block = at-is-formed .before in
     let at-comes-in = at-is-block .before in
-    rw (← at-is-formed .is-formed .ensures, ← at-is-block .is-block .ensures, ← ap (λ (x : Comes). x .blackout) (at-comes-in .comes-in .ensures), ← ap (λ (x : Comes). x .guest) (at-comes-in .comes-in .ensures), at-if1 .if1 .left, c .if2 .taken)
+    rw (
+      ← at-is-formed .is-formed .ensures,
+      ← at-is-block .is-block .ensures,
+      ← ap (λ (x : Comes). x .blackout) (at-comes-in .comes-in .ensures),
+      ← ap
+          (λ (x : Comes). x .guest) (at-comes-in .comes-in .ensures),
+      at-if1 .if1 .left,
+      c .if2 .taken,
+    )
 
 returns-3 : tie.Need-returns-3
 returns-3 c =
@@ -36,7 +51,16 @@ returns-3 c =
     let at-is-formed = at-if1 .before .before .before .before in
     let at-is-block = at-is-formed .before in
     let at-comes-in = at-is-block .before in
-    rw (← at-is-formed .is-formed .ensures, ← at-is-block .is-block .ensures, ← ap (λ (x : Comes). x .blackout) (at-comes-in .comes-in .ensures), ← ap (λ (x : Comes). x .guest) (at-comes-in .comes-in .ensures), at-if1 .if1 .left, at-if2 .if2 .left, c .if3 .taken)
+    rw (
+      ← at-is-formed .is-formed .ensures,
+      ← at-is-block .is-block .ensures,
+      ← ap (λ (x : Comes). x .blackout) (at-comes-in .comes-in .ensures),
+      ← ap
+          (λ (x : Comes). x .guest) (at-comes-in .comes-in .ensures),
+      at-if1 .if1 .left,
+      at-if2 .if2 .left,
+      c .if3 .taken,
+    )
 
 returns-4 : tie.Need-returns-4
 returns-4 c =
@@ -46,7 +70,17 @@ returns-4 c =
     let at-is-formed = at-if1 .before .before .before .before in
     let at-is-block = at-is-formed .before in
     let at-comes-in = at-is-block .before in
-    rw (← at-is-formed .is-formed .ensures, ← at-is-block .is-block .ensures, ← ap (λ (x : Comes). x .blackout) (at-comes-in .comes-in .ensures), ← ap (λ (x : Comes). x .guest) (at-comes-in .comes-in .ensures), at-if1 .if1 .left, at-if2 .if2 .left, at-if3 .if3 .left, c .if4 .taken)
+    rw (
+      ← at-is-formed .is-formed .ensures,
+      ← at-is-block .is-block .ensures,
+      ← ap (λ (x : Comes). x .blackout) (at-comes-in .comes-in .ensures),
+      ← ap
+          (λ (x : Comes). x .guest) (at-comes-in .comes-in .ensures),
+      at-if1 .if1 .left,
+      at-if2 .if2 .left,
+      at-if3 .if3 .left,
+      c .if4 .taken,
+    )
 
 move-code-requires : tie.Need-move-code-requires
 move-code-requires c κs = search needs
@@ -60,7 +94,18 @@ returns-5 c =
     let at-is-formed = at-if1 .before .before .before .before in
     let at-is-block = at-is-formed .before in
     let at-comes-in = at-is-block .before in
-    rw (← at-is-formed .is-formed .ensures, ← at-is-block .is-block .ensures, ← ap (λ (x : Comes). x .blackout) (at-comes-in .comes-in .ensures), ← ap (λ (x : Comes). x .guest) (at-comes-in .comes-in .ensures), at-if1 .if1 .left, at-if2 .if2 .left, at-if3 .if3 .left, at-if4 .if4 .left) (c .move-code .ensures)
+    rw (
+      ← at-is-formed .is-formed .ensures,
+      ← at-is-block .is-block .ensures,
+      ← ap (λ (x : Comes). x .blackout) (at-comes-in .comes-in .ensures),
+      ← ap
+          (λ (x : Comes). x .guest) (at-comes-in .comes-in .ensures),
+      at-if1 .if1 .left,
+      at-if2 .if2 .left,
+      at-if3 .if3 .left,
+      at-if4 .if4 .left,
+    )
+    (c .move-code .ensures)
 
 pub page-code-spec : {M : Type 1} → statement M
 page-code-spec = tie.close (tie.spec comes-in-requires is-block-requires is-formed-requires returns returns-2 returns-3 returns-4 move-code-requires returns-5)

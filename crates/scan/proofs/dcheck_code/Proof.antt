@@ -19,7 +19,14 @@ returns-2 c = rw (gate-first, ← c .before .before .before .gate .ensures, eq-e
 
 returns-3 : tie.Need-returns-3
 unfolding dcheckCode
-returns-3 c = rw (gate-first, ← c .before .before .before .before .gate .ensures, eq-eqb _ _ (c .before .before .if1 .left), c .before .if2 .left, c .if3 .taken)
+returns-3 c = rw (
+  gate-first,
+  ← c .before .before .before .before .gate .ensures,
+  eq-eqb _ _
+      (c .before .before .if1 .left),
+  c .before .if2 .left,
+  c .if3 .taken,
+)
 
 returns-4 : tie.Need-returns-4
 unfolding dcheckCode

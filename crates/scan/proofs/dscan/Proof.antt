@@ -37,8 +37,13 @@ returns-2 c =
     let at-if1 = at-range .before .before .before in
     let at-code = at-if1 .before in
     let s = at-code .before .before .before .before .args .s in
-    rw (← at-code .dscan-code .ensures, eq-eqb _ _ (at-if1 .if1 .left))
-    (c .answer .ensures ∙ ap (λ (g : Scanned). answerOf g s) (at-range .scan-range .ensures .0), (at-range .scan-range .ensures .1 .0, at-range .scan-range .ensures .1 .1))
+    rw (← at-code .dscan-code .ensures, eq-eqb _ _ (at-if1 .if1 .left)) (
+      c .answer .ensures ∙ ap (λ (g : Scanned). answerOf g s) (at-range .scan-range .ensures .0),
+      (
+        at-range .scan-range .ensures .1 .0,
+        at-range .scan-range .ensures .1 .1,
+      ),
+    )
 
 pub dscan-spec : {M : Type 1} → statement M
 dscan-spec = tie.close (tie.spec dscan-code-requires refuse-requires returns scan-range-requires answer-requires same-length same-length-2 returns-2)

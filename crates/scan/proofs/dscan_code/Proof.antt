@@ -18,15 +18,38 @@ returns c = rw (gate-first, ← c .before .before .gate .ensures, ne-eqb _ _ (c 
 
 returns-2 : tie.Need-returns-2
 unfolding dscanCode
-returns-2 c = rw (gate-first, ← c .before .before .before .gate .ensures, ← c .before .before .is-within .ensures, eq-eqb _ _ (c .before .if1 .left), c .if2 .taken)
+returns-2 c = rw (
+  gate-first,
+  ← c .before .before .before .gate .ensures,
+  ← c .before .before .is-within .ensures,
+  eq-eqb _ _
+      (c .before .if1 .left),
+  c .if2 .taken,
+)
 
 returns-3 : tie.Need-returns-3
 unfolding dscanCode
-returns-3 c = rw (gate-first, ← c .before .before .before .before .gate .ensures, ← c .before .before .before .is-within .ensures, eq-eqb _ _ (c .before .before .if1 .left), c .before .if2 .left, c .if3 .taken)
+returns-3 c = rw (
+  gate-first,
+  ← c .before .before .before .before .gate .ensures,
+  ← c .before .before .before .is-within .ensures,
+  eq-eqb _ _
+      (c .before .before .if1 .left),
+  c .before .if2 .left,
+  c .if3 .taken,
+)
 
 returns-4 : tie.Need-returns-4
 unfolding dscanCode
-returns-4 c = rw (gate-first, ← c .before .before .before .before .gate .ensures, ← c .before .before .before .is-within .ensures, eq-eqb _ _ (c .before .before .if1 .left), c .before .if2 .left, c .if3 .left)
+returns-4 c = rw (
+  gate-first,
+  ← c .before .before .before .before .gate .ensures,
+  ← c .before .before .before .is-within .ensures,
+  eq-eqb _ _
+      (c .before .before .if1 .left),
+  c .before .if2 .left,
+  c .if3 .left,
+)
 
 pub dscan-code-spec : {M : Type 1} → statement M
 dscan-code-spec = tie.close (tie.spec gate-requires is-within-requires returns returns-2 returns-3 returns-4)

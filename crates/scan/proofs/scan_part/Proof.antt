@@ -43,7 +43,10 @@ same-length-2 c = c .before .before .before .before .before .before .before .bef
 
 returns : tie.Need-returns Inv-loop μ-loop
 returns c =
-    parts (sym (scan-stops _ _ _ _ _ _ _ _ _ _ (c .before .before .before .before .before .before .before .loop-test .taken) (c .before .before .before .before .before .load .ensures) (c .before .before .before .before .is-blocked .ensures) (c .before .before .before .is-listed .ensures) (c .before .before .stop-code .ensures) (c .before .if1 .taken)) ∙ c .before .before .before .before .before .before .before .before .loop .inv .3)
+    parts (sym (scan-stops _ _ _ _ _ _ _ _ _ _ (c .before .before .before .before .before .before .before .loop-test .taken)
+    (c .before .before .before .before .before .load .ensures) (c .before .before .before .before .is-blocked .ensures)
+    (c .before .before .before .is-listed .ensures) (c .before .before .stop-code .ensures) (c .before .if1 .taken))
+    ∙ c .before .before .before .before .before .before .before .before .loop .inv .3)
 
 add-visit : tie.Need-add-visit Inv-loop μ-loop
 add-visit c = search needs
@@ -68,7 +71,9 @@ loop-again c =
       at-visit .visit .kept .0 ∙ at-loop .loop .inv .1,
       at-visit .visit .kept .1 .0 ∙ at-loop .loop .inv .2,
       rw (at-visit .visit .ensures .0, at-visit .visit .ensures .1 .0, at-visit .visit .ensures .1 .1)
-          (sym (scan-visits _ _ _ _ _ _ _ _ _ _ (at-test .loop-test .taken) (at-stop .before .before .before .load .ensures) (at-stop .before .before .is-blocked .ensures) (at-stop .before .is-listed .ensures) (at-stop .stop-code .ensures) (at-if1 .if1 .left)) ∙ at-loop .loop .inv .3),
+          (sym (scan-visits _ _ _ _ _ _ _ _ _ _ (at-test .loop-test .taken) (at-stop .before .before .before .load .ensures)
+          (at-stop .before .before .is-blocked .ensures) (at-stop .before .is-listed .ensures) (at-stop .stop-code .ensures) (at-if1 .if1 .left))
+          ∙ at-loop .loop .inv .3),
     )
 
 end-code-requires : tie.Need-end-code-requires Inv-loop μ-loop
@@ -84,7 +89,9 @@ same-length-4 : tie.Need-same-length-4 Inv-loop μ-loop
 same-length-4 c = c .before .before .before .loop .inv .2
 
 returns-2 : tie.Need-returns-2 Inv-loop μ-loop
-returns-2 c = parts (sym (scan-ends _ _ _ _ _ _ _ (c .before .before .loop-test .left) (c .before .end-code .ensures)) ∙ c .before .before .before .loop .inv .3)
+returns-2 c = parts (sym (scan-ends _ _ _ _ _ _ _ (c .before .before .loop-test .left) (c .before .end-code .ensures))
+    ∙ c .before .before .before .loop .inv .3)
 
 pub scan-part-spec : {M : Type 1} → statement M
-scan-part-spec = tie.close (tie.spec Inv-loop μ-loop loop-holds load-requires is-blocked-requires is-listed-requires stop-code-requires add-t17 same-length same-length-2 returns add-visit visit-requires add-i loop-less loop-again end-code-requires add-t12 same-length-3 same-length-4 returns-2)
+scan-part-spec = tie.close (tie.spec Inv-loop μ-loop loop-holds load-requires is-blocked-requires is-listed-requires stop-code-requires add-t17 same-length
+    same-length-2 returns add-visit visit-requires add-i loop-less loop-again end-code-requires add-t12 same-length-3 same-length-4 returns-2)

@@ -24,7 +24,10 @@ pick-requires-5 c κs = search needs
 
 returns : tie.Need-returns
 unfolding numberBy inMask
-returns c = picked-list (c .before .before .before .before .before .args .n) aborts (picked _ _ (c .pick5 .ensures) (picked _ _ (c .before .pick4 .ensures) (picked _ _ (c .before .before .pick3 .ensures) (picked _ _ (c .before .before .before .pick2 .ensures) (picked _ _ (c .before .before .before .before .pick .ensures) none))))) (search needs) tt
+returns c = picked-list (c .before .before .before .before .before .args .n) aborts (picked _ _ (c .pick5 .ensures)
+    (picked _ _ (c .before .pick4 .ensures)
+    (picked _ _ (c .before .before .pick3 .ensures)
+    (picked _ _ (c .before .before .before .pick2 .ensures) (picked _ _ (c .before .before .before .before .pick .ensures) none))))) (search needs) tt
 
 pub abort-of-spec : {M : Type 1} → statement M
 abort-of-spec = tie.close (tie.spec pick-requires pick-requires-2 pick-requires-3 pick-requires-4 pick-requires-5 returns)

@@ -21,7 +21,9 @@ pick-requires-4 c κs = search needs
 
 returns : tie.Need-returns
 unfolding numberBy inMask
-returns c = picked-list (c .before .before .before .before .args .n) unblocks (picked _ _ (c .pick4 .ensures) (picked _ _ (c .before .pick3 .ensures) (picked _ _ (c .before .before .pick2 .ensures) (picked _ _ (c .before .before .before .pick .ensures) none)))) (search needs) tt
+returns c = picked-list (c .before .before .before .before .args .n) unblocks (picked _ _ (c .pick4 .ensures)
+    (picked _ _ (c .before .pick3 .ensures) (picked _ _ (c .before .before .pick2 .ensures) (picked _ _ (c .before .before .before .pick .ensures) none))))
+    (search needs) tt
 
 pub unblock-of-spec : {M : Type 1} → statement M
 unblock-of-spec = tie.close (tie.spec pick-requires pick-requires-2 pick-requires-3 pick-requires-4 returns)

@@ -32,7 +32,8 @@ returns c =
     let at-load = at-is-sought .before in
     let at-loop-test = at-load .before in
     let at-loop = at-loop-test .before in
-    sym (lowest-found _ _ _ _ (at-loop-test .loop-test .taken) (rw (← at-load .load .ensures, ← at-is-sought .is-sought .ensures) (c .if1 .taken))) ∙ at-loop .loop .inv .1
+    sym (lowest-found _ _ _ _ (at-loop-test .loop-test .taken) (rw (← at-load .load .ensures, ← at-is-sought .is-sought .ensures) (c .if1 .taken)))
+    ∙ at-loop .loop .inv .1
 
 add-i : tie.Need-add-i Inv-loop μ-loop
 add-i c = search needs
@@ -45,8 +46,11 @@ loop-again c =
     let at-is-sought = c .before in
     let at-load = at-is-sought .before in
     let at-loop-test = at-load .before in
-    let at-loop = at-loop-test .before in
-    (omega arith, sym (lowest-next _ _ _ _ (at-loop-test .loop-test .taken) (rw (← at-load .load .ensures, ← at-is-sought .is-sought .ensures) (c .if1 .left))) ∙ at-loop .loop .inv .1)
+    let at-loop = at-loop-test .before in (
+      omega arith,
+      sym (lowest-next _ _ _ _ (at-loop-test .loop-test .taken) (rw (← at-load .load .ensures, ← at-is-sought .is-sought .ensures) (c .if1 .left)))
+          ∙ at-loop .loop .inv .1,
+    )
 
 returns-2 : tie.Need-returns-2 Inv-loop μ-loop
 returns-2 c =

@@ -41,7 +41,8 @@ turned c =
     let at-known = at-read .before in
     let a = at-known .before .before .args in
     let reads : readable (now (a .session)) (length (now (a .table))) ≡ true = sym (at-read .read .ensures .0) ∙ at-if1 .if1 .taken in
-    let turn : c .on-words .result ≡ turnOn (a .m) (now (a .session)) (now (a .table)) (a .page) = rw (← at-read .read .ensures .1 (at-if1 .if1 .taken), ← at-load .load .ensures) (c .on-words .ensures) in
+    let turn : c .on-words .result ≡ turnOn (a .m) (now (a .session)) (now (a .table)) (a .page) =
+    rw (← at-read .read .ensures .1 (at-if1 .if1 .taken), ← at-load .load .ensures) (c .on-words .ensures) in
     rw turn
     (one-page (a .m) (now (a .session)) (now (a .table)) (a .page)
     (λ i. omega (arith, at-known .before .shared-slice-known .given i))
@@ -63,7 +64,8 @@ returns-3 : tie.Need-returns-3
 returns-3 c =
     let at-read = c .before in
     let a = at-read .before .before .before .args in
-    rw (host-refused (OnPage (a .page) (a .m)) (lent (now (a .session)) (now (a .table))) refl (sym (at-read .read .ensures .0) ∙ c .if1 .left)) (refl, (refl, refl))
+    rw (host-refused (OnPage (a .page) (a .m)) (lent (now (a .session)) (now (a .table))) refl (sym (at-read .read .ensures .0) ∙ c .if1 .left))
+    (refl, (refl, refl))
 
 pub on-page-spec : {M : Type 1} → statement M
 on-page-spec = tie.close (tie.spec read-requires load-requires on-words-requires store-requires same-length returns same-length-2 returns-2 returns-3)

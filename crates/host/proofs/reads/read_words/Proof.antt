@@ -26,8 +26,16 @@ same-length c = search needs
 returns-2 : tie.Need-returns-2
 unfolding readable
 returns-2 c =
-    let at-decode = c .before .before .before .before in
-    (rw (eq-eqb _ _ (c .before .before .before .before .before .before .if1 .left), c .before .before .before .before .before .before .before .is-table .ensures, c .is-session .ensures, at-decode .decode .ensures), (λ e. at-decode .decode .ensures))
+    let at-decode = c .before .before .before .before in (
+      rw (
+        eq-eqb _ _ (c .before .before .before .before .before .before .if1 .left),
+        c .before .before .before .before .before .before
+            .before .is-table .ensures,
+        c .is-session .ensures,
+        at-decode .decode .ensures,
+      ),
+      (λ e. at-decode .decode .ensures),
+    )
 
 pub read-words-spec : {M : Type 1} → statement M
 read-words-spec = tie.close (tie.spec is-table-requires returns decode-requires is-session-requires same-length returns-2)

@@ -27,7 +27,8 @@ returns c =
     let at-gate = at-stopped .before .before in
     let a = at-gate .before .before .args in
     let t = now (a .table) in
-    c .sweep-answer .ensures ∙ sweep-answer (a .k) _ (wordsOf t) _ _ (rw (words-length t) (at-gate .sweep-gate .ensures)) (λ z. rw (eq-eqb _ _ z, at-stopped .before .stops-at .ensures) at (at-stopped .is-stopped .ensures))
+    c .sweep-answer .ensures ∙ sweep-answer (a .k) _ (wordsOf t) _ _ (rw (words-length t) (at-gate .sweep-gate .ensures)) (λ z. rw
+    (eq-eqb _ _ z, at-stopped .before .stops-at .ensures) at (at-stopped .is-stopped .ensures))
 
 pub answer-of-spec : {M : Type 1} → statement M
 answer-of-spec = tie.close (tie.spec sweep-gate-requires stops-at-requires is-stopped-requires sweep-answer-requires returns)

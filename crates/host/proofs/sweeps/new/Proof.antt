@@ -48,7 +48,8 @@ same-length-2 c = search needs
 left :
     (c : tie.After-new-answer) →
     let a = c .before .before .before .before .before .before .before .args in
-    Leaves (now (a .session)) (now (a .table)) (c .new-answer .result) (replicate (length (now (a .table))) 0) (hostOf (New (a .created)) (lent (now (a .session)) (now (a .table))))
+    Leaves (now (a .session)) (now (a .table)) (c .new-answer .result) (replicate (length (now (a .table))) 0)
+    (hostOf (New (a .created)) (lent (now (a .session)) (now (a .table))))
 left c =
     let at-session = c .before in
     let at-if1 = at-session .before .before in
@@ -57,7 +58,8 @@ left c =
     let t = now (a .table) in
     new-left (a .created) (now (a .session)) t (c .new-answer .result)
     (rw (at-table .is-table .ensures) at (at-if1 .if1 .taken))
-    (c .new-answer .ensures ∙ new-answer _ _ (wordsOf t) _ (words-length t) ∙ ap (λ (x : Session). newOut x (wordsOf t) (a .created) .answer) (at-session .session-of .ensures))
+    (c .new-answer .ensures ∙ new-answer _ _ (wordsOf t) _ (words-length t)
+    ∙ ap (λ (x : Session). newOut x (wordsOf t) (a .created) .answer) (at-session .session-of .ensures))
 
 returns : tie.Need-returns
 returns c =

@@ -43,7 +43,8 @@ left :
     (c : tie.After-answer-of) →
     let a = c .before .before .before .before .before .before .before .args in
     let t = wordsOf (now (a .table)) in
-    Leaves (now (a .session)) (now (a .table)) (c .answer-of .result) (bytesOf (sweepOf (onWords (sweptBy (a .k))) t)) (hostOf (OnAll (a .k)) (lent (now (a .session)) (now (a .table))))
+    Leaves (now (a .session)) (now (a .table)) (c .answer-of .result) (bytesOf (sweepOf (onWords (sweptBy (a .k))) t))
+    (hostOf (OnAll (a .k)) (lent (now (a .session)) (now (a .table))))
 left c =
     let at-if1 = c .before .before in
     let at-read = at-if1 .before in

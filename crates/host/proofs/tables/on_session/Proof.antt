@@ -40,7 +40,8 @@ returns c =
     let left = alone-left (a .k) (now (a .session)) t (at-made .on-session .result)
     (λ i. at-table .shared-slice-known .given i .fits)
     (sym (at-read .read .ensures .0) ∙ at-if .if1 .taken)
-    (at-made .on-session .ensures ∙ alone-answer _ _ _ (wordsOf t) (words-length t) ∙ ap (λ (x : Session). onSession (a .k) x (wordsOf t) .answer) (at-read .read .ensures .1 (at-if .if1 .taken))) in
+    (at-made .on-session .ensures ∙ alone-answer _ _ _ (wordsOf t) (words-length t)
+    ∙ ap (λ (x : Session). onSession (a .k) x (wordsOf t) .answer) (at-read .read .ensures .1 (at-if .if1 .taken))) in
     (left .0, (at-put .put-unless .ensures ∙ left .1 .0, left .1 .1))
 
 same-length-2 : tie.Need-same-length-2

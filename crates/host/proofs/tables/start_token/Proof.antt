@@ -62,7 +62,8 @@ returns-2 c =
     let at-if = c .before in
     let at-read = at-if .before in
     let a = at-read .before .before .before .before .args in
-    rw (host-refused StartToken (lent (now (a .session)) (now (a .table))) refl (sym (at-read .read .ensures .0) ∙ at-if .if1 .left)) (c .code-alone .ensures, (refl, refl))
+    rw (host-refused StartToken (lent (now (a .session)) (now (a .table))) refl (sym (at-read .read .ensures .0) ∙ at-if .if1 .left))
+    (c .code-alone .ensures, (refl, refl))
 
 pub start-token-spec : {M : Type 1} → statement M
 start-token-spec =

@@ -1,4 +1,5 @@
--- The words that are read, given to the engine and written back are `played` on what the bytes mean: each callee's contract is a part of it. No length changes on the way.
+-- The words that are read, given to the engine and written back are `played` on what the bytes mean: each callee's contract is a part of it. No length changes
+-- on the way.
 use borrow.Author.Needs.{needs}
 use Rattle.host.specs.Host.{played}
 use Prim.Native.Nat.{ℕ, _*_}
@@ -22,13 +23,16 @@ write-unless-requires : tie.Need-write-unless-requires
 write-unless-requires c κs =
     let at-play = c .before .before .before .before .before .before .before .before .before .before .before .before .before in
     let at-decode = at-play .before .before .before .before .before .before .before .before .before .before .before .before .before in
-    at-decode .before .before .before .before .before .before .before .before .before .before .pre .3 ∙ ap (λ (n : ℕ). 8 * n) (sym (at-play .play-words .kept .1 .1 .1 .1 .1 .0 ∙ at-decode .decode .kept .1 .0))
+    at-decode .before .before .before .before .before .before .before .before .before .before .pre .3
+    ∙ ap (λ (n : ℕ). 8 * n) (sym (at-play .play-words .kept .1 .1 .1 .1 .1 .0 ∙ at-decode .decode .kept .1 .0))
 
 write-unless-requires-2 : tie.Need-write-unless-requires-2
 write-unless-requires-2 c κs =
-    let at-play = c .before .before .before .before .before .before .before .before .before .before .before .before .before .before .before .before .before .before in
+    let at-play = c .before .before .before .before .before .before .before .before .before .before .before .before .before .before .before .before .before
+    .before in
     let at-decode = at-play .before .before .before .before .before .before .before .before in
-    at-decode .before .before .before .before .before .before .before .before .before .before .before .before .before .before .before .pre .4 ∙ ap (λ (n : ℕ). 8 * n) (sym (at-play .play-words .kept .1 .1 .1 .1 .1 .1 .0 ∙ at-decode .decode2 .kept .1 .0))
+    at-decode .before .before .before .before .before .before .before .before .before .before .before .before .before .before .before .pre .4
+    ∙ ap (λ (n : ℕ). 8 * n) (sym (at-play .play-words .kept .1 .1 .1 .1 .1 .1 .0 ∙ at-decode .decode2 .kept .1 .0))
 
 numbers-of-requires : tie.Need-numbers-of-requires
 numbers-of-requires c κs = search needs
@@ -50,12 +54,15 @@ same-length-5 c = search needs
 
 same-length-6 : tie.Need-same-length-6
 same-length-6 c =
-    let at-play = c .before .before .before .before .before .before .before .before .before .before .before .before .before .before .before .before .before .before .before .before .before .before in
-    at-play .play-words .kept .1 .1 .1 .1 .1 .0 ∙ at-play .before .before .before .before .before .before .before .before .before .before .before .before .before .decode .kept .1 .0
+    let at-play = c .before .before .before .before .before .before .before .before .before .before .before .before .before .before .before .before .before
+    .before .before .before .before .before in
+    at-play .play-words .kept .1 .1 .1 .1 .1 .0
+    ∙ at-play .before .before .before .before .before .before .before .before .before .before .before .before .before .decode .kept .1 .0
 
 same-length-7 : tie.Need-same-length-7
 same-length-7 c =
-    let at-play = c .before .before .before .before .before .before .before .before .before .before .before .before .before .before .before .before .before .before .before .before .before .before in
+    let at-play = c .before .before .before .before .before .before .before .before .before .before .before .before .before .before .before .before .before
+    .before .before .before .before .before in
     at-play .play-words .kept .1 .1 .1 .1 .1 .1 .0 ∙ at-play .before .before .before .before .before .before .before .before .decode2 .kept .1 .0
 
 returns : tie.Need-returns
@@ -66,7 +73,11 @@ returns c =
     let refused = at-list .before .before .before .is-refusal .ensures in
     let at-play = at-list .before .before .before .before .before .before .before .before .before .before .before .before .before .before in
     let made = at-play .play-words .ensures in
-    rw (← at-play .before .before .before .before .before .before .before .before .before .before .before .before .before .decode .ensures, ← at-play .before .before .before .before .before .before .before .before .decode2 .ensures, ← made .0) (
+    rw (
+      ← at-play .before .before .before .before .before .before .before .before .before .before .before .before .before .decode .ensures,
+      ← at-play .before .before .before .before .before .before .before .before .decode2 .ensures,
+      ← made .0,
+    ) (
       c .numbers-of .ensures,
       (
         made .1 .0,

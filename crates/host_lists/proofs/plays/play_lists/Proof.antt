@@ -18,13 +18,16 @@ slice-aggregate-contents : tie.Need-slice-aggregate-contents
 slice-aggregate-contents c = search needs
 
 slice-aggregate-play : tie.Need-slice-aggregate-play
-slice-aggregate-play c = sym (room-for (replicate 8192 0) _ (length-replicate {A = ℕ} 8192 0) (c .before .before .before .before .before .before .before .before .before .before .before .before .pre .1))
+slice-aggregate-play c = sym (room-for (replicate 8192 0) _ (length-replicate {A = ℕ} 8192 0)
+    (c .before .before .before .before .before .before .before .before .before .before .before .before .pre .1))
 
 slice-aggregate-play-2 : tie.Need-slice-aggregate-play-2
-slice-aggregate-play-2 c = sym (list-room (replicate 512 0) _ (length-replicate {A = ℕ} 512 0) (c .before .before .before .before .before .before .before .before .before .before .before .before .before .pre .2))
+slice-aggregate-play-2 c = sym (list-room (replicate 512 0) _ (length-replicate {A = ℕ} 512 0)
+    (c .before .before .before .before .before .before .before .before .before .before .before .before .before .pre .2))
 
 slice-aggregate-play-3 : tie.Need-slice-aggregate-play-3
-slice-aggregate-play-3 c = sym (list-room (replicate 512 0) _ (length-replicate {A = ℕ} 512 0) (c .before .before .before .before .before .before .before .before .before .before .before .before .before .before .pre .3))
+slice-aggregate-play-3 c = sym (list-room (replicate 512 0) _ (length-replicate {A = ℕ} 512 0)
+    (c .before .before .before .before .before .before .before .before .before .before .before .before .before .before .pre .3))
 
 play-requires : tie.Need-play-requires
 play-requires c κs =

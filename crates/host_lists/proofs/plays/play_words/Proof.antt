@@ -48,7 +48,8 @@ encode-requires c κs =
     let at-perform = c .before .before .before .before .before .before .before .before .before .before .before .before .before .before in
     let at-decode = at-perform .before .before .before .before .before .before in
     let start = at-decode .before .before .before .before .before .before .before .before in
-    eights (length (now (start .args .table))) (start .pre .1) ∙ ap (λ (n : ℕ). 8 * n) (sym (at-perform .perform .kept .1 .1 .0 ∙ at-decode .decode .kept .1 .0 ∙ start .pre .2))
+    eights (length (now (start .args .table))) (start .pre .1)
+    ∙ ap (λ (n : ℕ). 8 * n) (sym (at-perform .perform .kept .1 .1 .0 ∙ at-decode .decode .kept .1 .0 ∙ start .pre .2))
 
 same-length-5 : tie.Need-same-length-5
 same-length-5 c = search needs
@@ -67,10 +68,22 @@ same-length-9 c = search needs
 
 returns-2 : tie.Need-returns-2
 returns-2 c =
-    let made = c .before .before .before .before .before .before .before .before .before .before .before .before .before .before .before .before .before .perform .ensures in
-    let words = c .before .before .before .before .before .before .before .before .before .before .before .before .before .before .before .before .before .before .before .before .before .before .before .decode .ensures in
-    let taken = sym (c .before .before .before .before .before .before .before .before .before .before .is-refusal .ensures) ∙ c .before .before .before .before .before .before .before .before .before .if1 .left in
-    (rw words at (made .0), (rw taken (c .before .before .before .before .before .before .before .put-session .ensures), (rw taken (c .before .before .encode .ensures ∙ ap bytesOf (rw words at (made .1 .0))), (rw words at (made .1 .1 .0), rw words at (made .1 .1 .1)))))
+    let made = c .before .before .before .before .before .before .before .before .before .before .before .before .before .before .before .before
+    .before .perform .ensures in
+    let words = c .before .before .before .before .before .before .before .before .before .before .before .before .before .before .before .before .before
+    .before .before .before .before .before .before .decode .ensures in
+    let taken = sym (c .before .before .before .before .before .before .before .before .before .before .is-refusal .ensures)
+    ∙ c .before .before .before .before .before .before .before .before .before .if1 .left in (
+      rw words at (made .0),
+      (
+        rw taken (c .before .before .before .before .before .before .before .put-session .ensures),
+        (
+          rw taken
+              (c .before .before .encode .ensures ∙ ap bytesOf (rw words at (made .1 .0))),
+          (rw words at (made .1 .1 .0), rw words at (made .1 .1 .1)),
+        ),
+      ),
+    )
 
 pub play-words-spec : {M : Type 1} → statement M
 play-words-spec =

@@ -12,7 +12,8 @@ use Rattle.migration.proofs.Laws.{token-numbers, token-answer}
 use Rattle.migration.proofs.token.start_token.Statement.{statement}
 use Rattle.migration.proofs.token.start_token.Tie as tie
 
-numbers : (s : Session) (t : List ℕ) (r : TokenAnswer) → r ≡ tokenOut s t → tokenSays (r .token) ≡ record { code = tokenCode s t; page = inTheWay (tokenCode s t) t }
+numbers : (s : Session) (t : List ℕ) (r : TokenAnswer) → r ≡ tokenOut s t →
+    tokenSays (r .token) ≡ record { code = tokenCode s t; page = inTheWay (tokenCode s t) t }
 unfolding tokenOut
 numbers s t r e = rw e (token-numbers (tokenCode s t) t)
 
@@ -35,7 +36,8 @@ returns c =
     let at-gate = at-53 .before in
     let a = at-gate .before .before .args in
     let t = now (a .table) in
-    let answer = c .token-answer .ensures ∙ token-answer (a .s) t _ _ _ _ (at-gate .token-gate .ensures) refl (λ z. rw (eq-eqb _ _ z) at (at-53 .first .ensures)) (λ z h. rw (eq-eqb _ _ z, le-leb _ _ h) at (at-54 .first2 .ensures)) in
+    let answer = c .token-answer .ensures ∙ token-answer (a .s) t _ _ _ _ (at-gate .token-gate .ensures) refl (λ z. rw (eq-eqb _ _ z) at
+    (at-53 .first .ensures)) (λ z h. rw (eq-eqb _ _ z, le-leb _ _ h) at (at-54 .first2 .ensures)) in
     (answer, numbers (a .s) t (c .token-answer .result) answer)
 
 pub start-token-spec : {M : Type 1} → statement M

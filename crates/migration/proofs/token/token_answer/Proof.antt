@@ -22,7 +22,13 @@ with-phase-requires c κs = search needs
 
 returns-4 : tie.Need-returns-4
 unfolding tokenAnswer
-returns-4 c = rw (eq-eqb _ _ (c .before .before .before .if1 .left), le-ltb _ _ (c .before .before .if2 .left), le-ltb _ _ (c .before .if3 .left), ← c .with-phase .ensures)
+returns-4 c = rw (
+  eq-eqb _ _ (c .before .before .before .if1 .left),
+  le-ltb _ _ (c .before .before .if2 .left),
+  le-ltb _ _
+      (c .before .if3 .left),
+  ← c .with-phase .ensures,
+)
 
 pub token-answer-spec : {M : Type 1} → statement M
 token-answer-spec = tie.close (tie.spec returns returns-2 returns-3 with-phase-requires returns-4)

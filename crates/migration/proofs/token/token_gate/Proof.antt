@@ -18,21 +18,44 @@ is-busy-requires : tie.Need-is-busy-requires
 is-busy-requires c κs = search needs
 
 returns-2 : tie.Need-returns-2
-returns-2 c = rw (gate-first _ _ (phasesOf Blackout) (tokenGate _), ← c .before .before .before .before .gate .ensures, eq-eqb _ _ (c .before .before .before .if1 .left), ← c .before .before .is-busy .ensures, c .if2 .taken)
+returns-2 c = rw (
+  gate-first _ _ (phasesOf Blackout) (tokenGate _),
+  ← c .before .before .before .before .gate .ensures,
+  eq-eqb _ _
+      (c .before .before .before .if1 .left),
+  ← c .before .before .is-busy .ensures,
+  c .if2 .taken,
+)
 
 returns-3 : tie.Need-returns-3
 returns-3 c =
     let at-if2 = c .before in
     let at-is-busy = at-if2 .before .before in
     let at-if1 = at-is-busy .before in
-    rw (gate-first _ _ (phasesOf Blackout) (tokenGate _), ← at-if1 .before .gate .ensures, eq-eqb _ _ (at-if1 .if1 .left), ← at-is-busy .is-busy .ensures, at-if2 .if2 .left, c .if3 .taken)
+    rw (
+      gate-first _ _ (phasesOf Blackout) (tokenGate _),
+      ← at-if1 .before .gate .ensures,
+      eq-eqb _ _
+          (at-if1 .if1 .left),
+      ← at-is-busy .is-busy .ensures,
+      at-if2 .if2 .left,
+      c .if3 .taken,
+    )
 
 returns-4 : tie.Need-returns-4
 returns-4 c =
     let at-if2 = c .before in
     let at-is-busy = at-if2 .before .before in
     let at-if1 = at-is-busy .before in
-    rw (gate-first _ _ (phasesOf Blackout) (tokenGate _), ← at-if1 .before .gate .ensures, eq-eqb _ _ (at-if1 .if1 .left), ← at-is-busy .is-busy .ensures, at-if2 .if2 .left, c .if3 .left)
+    rw (
+      gate-first _ _ (phasesOf Blackout) (tokenGate _),
+      ← at-if1 .before .gate .ensures,
+      eq-eqb _ _
+          (at-if1 .if1 .left),
+      ← at-is-busy .is-busy .ensures,
+      at-if2 .if2 .left,
+      c .if3 .left,
+    )
 
 pub token-gate-spec : {M : Type 1} → statement M
 token-gate-spec = tie.close (tie.spec gate-requires returns is-busy-requires returns-2 returns-3 returns-4)

@@ -57,4 +57,5 @@ returns-6 : tie.Need-returns-6
 returns-6 c = rw (c .before .enum-told6 .given .1) (c .remove-of .ensures)
 
 pub goal-spec : {M : Type 1} → statement M
-goal-spec = tie.close (tie.spec enum-told enum-told-2 add-of-requires enum-told-3 accept-of-requires enum-told-4 block-of-requires enum-told-5 unblock-of-requires enum-told-6 remove-of-requires returns returns-2 returns-3 returns-4 returns-5 returns-6)
+goal-spec = tie.close (tie.spec enum-told enum-told-2 add-of-requires enum-told-3 accept-of-requires enum-told-4 block-of-requires enum-told-5
+    unblock-of-requires enum-told-6 remove-of-requires returns returns-2 returns-3 returns-4 returns-5 returns-6)

@@ -21,7 +21,13 @@ is-landing-requires c κs = search needs
 
 returns : tie.Need-returns
 unfolding pageOf writable
-returns c = rw (← c .before .before .before .before .state-of .ensures .1, ← c .before .is-landing .ensures, ← c .before .before .is-writable .ensures, ← ap (λ (x : Record). x .cached) (c .before .before .before .record-of .ensures .0))
+returns c = rw (
+  ← c .before .before .before .before .state-of .ensures .1,
+  ← c .before .is-landing .ensures,
+  ← c .before .before .is-writable .ensures,
+  ← ap
+      (λ (x : Record). x .cached) (c .before .before .before .record-of .ensures .0),
+)
 
 pub is-writable-spec : {M : Type 1} → statement M
 is-writable-spec = tie.close (tie.spec state-of-requires record-of-requires is-writable-requires is-landing-requires returns)

@@ -63,21 +63,56 @@ returns : tie.Need-returns
 returns c = rw (c .before .enum-told .given .1, ← c .before .before .before .is-writable .ensures) (c .enter-code .ensures)
 
 returns-2 : tie.Need-returns-2
-returns-2 c = rw (c .before .enum-told2 .given .1, ← able Add (c .before .before .before .before .before .before .before .before .args .w) _ _ (search needs) (c .before .before .before .before .before .before .before .state-of .ensures .1) (rw (c .before .enum-told2 .given .1) at (c .before .before .before .before .before .goal .ensures))) (c .enter-code2 .ensures)
+returns-2 c = rw (
+  c .before .enum-told2 .given .1,
+  ← able Add (c .before .before .before .before .before .before .before .before .args .w) _ _ (search needs)
+      (c .before .before .before .before .before .before .before .state-of .ensures .1)
+      (rw (c .before .enum-told2 .given .1) at (c .before .before .before .before .before .goal .ensures)),
+) (c .enter-code2 .ensures)
 
 returns-3 : tie.Need-returns-3
-returns-3 c = rw (c .before .enum-told3 .given .1, ← able Accept (c .before .before .before .before .before .before .before .before .args .w) _ _ (search needs) (c .before .before .before .before .before .before .before .state-of .ensures .1) (rw (c .before .enum-told3 .given .1) at (c .before .before .before .before .before .goal .ensures))) (c .enter-code3 .ensures)
+returns-3 c = rw (
+  c .before .enum-told3 .given .1,
+  ← able Accept (c .before .before .before .before .before .before .before .before .args .w) _ _ (search needs)
+      (c .before .before .before .before .before .before .before .state-of .ensures .1)
+      (rw (c .before .enum-told3 .given .1) at (c .before .before .before .before .before .goal .ensures)),
+) (c .enter-code3 .ensures)
 
 returns-4 : tie.Need-returns-4
-returns-4 c = rw (c .before .enum-told4 .given .1, ← able Block (c .before .before .before .before .before .before .before .before .args .w) _ _ (search needs) (c .before .before .before .before .before .before .before .state-of .ensures .1) (rw (c .before .enum-told4 .given .1) at (c .before .before .before .before .before .goal .ensures))) (c .enter-code4 .ensures)
+returns-4 c = rw (
+  c .before .enum-told4 .given .1,
+  ← able Block (c .before .before .before .before .before .before .before .before .args .w) _ _ (search needs)
+      (c .before .before .before .before .before .before .before .state-of .ensures .1)
+      (rw (c .before .enum-told4 .given .1) at (c .before .before .before .before .before .goal .ensures)),
+) (c .enter-code4 .ensures)
 
 returns-5 : tie.Need-returns-5
 unfolding pageOf
-returns-5 c = rw (c .before .enum-told5 .given .1, ← able Unblock (c .before .before .before .before .before .before .before .before .args .w) _ _ (search needs) (c .before .before .before .before .before .before .before .state-of .ensures .1) (rw (c .before .enum-told5 .given .1) at (c .before .before .before .before .before .goal .ensures)), ← ap (λ (r : Record). r .stamp) (c .before .before .before .before .before .before .record-of .ensures .0), ← c .before .before .before .before .is-tracked .ensures) (c .leave-code .ensures)
+returns-5 c = rw (
+  c .before .enum-told5 .given .1,
+  ← able Unblock (c .before .before .before .before .before .before .before .before .args .w) _ _
+      (search needs) (c .before .before .before .before .before .before .before .state-of .ensures .1)
+      (rw (c .before .enum-told5 .given .1) at (c .before .before .before .before .before .goal .ensures)),
+  ← ap (λ (r : Record). r .stamp)
+      (c .before .before .before .before .before .before .record-of .ensures .0),
+  ← c .before .before .before .before .is-tracked .ensures,
+)
+    (c .leave-code .ensures)
 
 returns-6 : tie.Need-returns-6
 unfolding pageOf
-returns-6 c = rw (c .before .enum-told6 .given .1, ← able Remove (c .before .before .before .before .before .before .before .before .args .w) _ _ (search needs) (c .before .before .before .before .before .before .before .state-of .ensures .1) (rw (c .before .enum-told6 .given .1) at (c .before .before .before .before .before .goal .ensures)), ← ap (λ (r : Record). r .stamp) (c .before .before .before .before .before .before .record-of .ensures .0), ← c .before .before .before .before .is-tracked .ensures) (c .leave-code2 .ensures)
+returns-6 c = rw (
+  c .before .enum-told6 .given .1,
+  ← able Remove (c .before .before .before .before .before .before .before .before .args .w) _ _ (search needs)
+      (c .before .before .before .before .before .before .before .state-of .ensures .1)
+      (rw (c .before .enum-told6 .given .1) at (c .before .before .before .before .before .goal .ensures)),
+  ← ap (λ (r : Record). r .stamp)
+      (c .before .before .before .before .before .before .record-of .ensures .0),
+  ← c .before .before .before .before .is-tracked .ensures,
+)
+    (c .leave-code2 .ensures)
 
 pub move-code-spec : {M : Type 1} → statement M
-move-code-spec = tie.close (tie.spec state-of-requires record-of-requires goal-requires is-tracked-requires is-writable-requires enum-told enter-code-requires enum-told-2 enter-code-requires-2 enum-told-3 enter-code-requires-3 enum-told-4 enter-code-requires-4 enum-told-5 leave-code-requires enum-told-6 leave-code-requires-2 returns returns-2 returns-3 returns-4 returns-5 returns-6)
+move-code-spec = tie.close (tie.spec state-of-requires record-of-requires goal-requires is-tracked-requires is-writable-requires enum-told enter-code-requires
+    enum-told-2 enter-code-requires-2 enum-told-3 enter-code-requires-3 enum-told-4 enter-code-requires-4 enum-told-5 leave-code-requires enum-told-6
+    leave-code-requires-2 returns returns-2 returns-3 returns-4 returns-5 returns-6)

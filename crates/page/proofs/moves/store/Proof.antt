@@ -33,7 +33,15 @@ returns c =
     let q = stored (pageOf w) (start .args .mark) in
     λ e.
     words-set (λ (r : Record). withCached (withDirty r (q .dirty)) true) w _ q (search needs) e
-    (rw (← c .before .before .before .before .before .state-of .ensures .1, ← c .before .before .before .before .is-writable .ensures, ← ap (λ (r : Record). r .cached) (c .before .before .before .before .before .before .record-of .ensures .0), ← ap (λ (r : Record). r .dirty) (c .before .before .before .before .before .before .record-of .ensures .0)) (c .set-cached .ensures ∙ ap (λ (r : Record). withCached r true) (c .before .set-dirty .ensures)))
+    (rw (
+      ← c .before .before .before .before .before .state-of .ensures .1,
+      ← c .before .before .before .before .is-writable .ensures,
+      ← ap
+          (λ (r : Record). r .cached) (c .before .before .before .before .before .before .record-of .ensures .0),
+      ← ap (λ (r : Record). r .dirty)
+          (c .before .before .before .before .before .before .record-of .ensures .0),
+    )
+    (c .set-cached .ensures ∙ ap (λ (r : Record). withCached r true) (c .before .set-dirty .ensures)))
     (sym (lowered-fits q (read-held w e .stamp) (read-held w e .migrated)))
 
 pub store-spec : {M : Type 1} → statement M

@@ -20,7 +20,13 @@ is-sent-requires c κs = search needs
 
 returns : tie.Need-returns
 unfolding pageOf gives53
-returns c = rw (← c .before .before .before .before .state-of .ensures .1, ← c .before .is-sent .ensures, ← c .before .before .is-changed .ensures, ← ap (λ (x : Record). x .dirty) (c .before .before .before .record-of .ensures .0))
+returns c = rw (
+  ← c .before .before .before .before .state-of .ensures .1,
+  ← c .before .is-sent .ensures,
+  ← c .before .before .is-changed .ensures,
+  ← ap
+      (λ (x : Record). x .dirty) (c .before .before .before .record-of .ensures .0),
+)
 
 pub gives-53-spec : {M : Type 1} → statement M
 gives-53-spec = tie.close (tie.spec state-of-requires record-of-requires is-changed-requires is-sent-requires returns)

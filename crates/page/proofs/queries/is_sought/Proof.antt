@@ -40,4 +40,5 @@ returns-4 : tie.Need-returns-4
 returns-4 c = rw (c .before .enum-told4 .given .1) (c .gives-54 .ensures)
 
 pub is-sought-spec : {M : Type 1} → statement M
-is-sought-spec = tie.close (tie.spec enum-told is-blocked-requires enum-told-2 is-unstartable-requires enum-told-3 gives-53-requires enum-told-4 gives-54-requires returns returns-2 returns-3 returns-4)
+is-sought-spec = tie.close (tie.spec enum-told is-blocked-requires enum-told-2 is-unstartable-requires enum-told-3 gives-53-requires enum-told-4
+    gives-54-requires returns returns-2 returns-3 returns-4)

@@ -41,8 +41,15 @@ returns c =
     λ s e q.
     let stamp = low 16 (keptStamp s (pageOf w .stamp)) in
     words-set (λ (r : Record). withMigrated (withStamp (withState r (numberOf s)) stamp) 0) w _ (refreshed (pageOf w) s) (search needs) e
-    (c .set-migrated .ensures ∙ ap (λ (r : Record). withMigrated r 0) (c .before .set-stamp .ensures ∙ ap₂ (λ (r : Record) (n : ℕ). withStamp r (low 16 n)) (c .before .before .set-state .ensures ∙ ap (withState (recordOf (w .word))) q) (c .before .before .before .kept-stamp .ensures ∙ ap₂ (λ (b : Bool) (n : ℕ). cond b n 0) (c .before .before .before .before .is-stamped .ensures ∙ ap (λ (z : State). isIn z stampedStates) (ap stateOf q ∙ state-number s)) (ap (λ (r : Record). r .stamp) (c .before .before .before .before .before .record-of .ensures .0)))))
-    (ap (λ (r : Record). withStamp r stamp) (sym (lowered-fits (record { state = s; dirty = pageOf w .dirty; cached = pageOf w .cached; stamp = 0; migrated = 0; mark = 0 }) (lit< tt) (lit< tt))))
+    (c .set-migrated .ensures ∙ ap (λ (r : Record). withMigrated r 0) (c .before .set-stamp .ensures
+    ∙ ap₂ (λ (r : Record) (n : ℕ). withStamp r (low 16 n)) (c .before .before .set-state .ensures ∙ ap (withState (recordOf (w .word))) q)
+    (c .before .before .before .kept-stamp .ensures
+    ∙ ap₂ (λ (b : Bool) (n : ℕ). cond b n 0)
+    (c .before .before .before .before .is-stamped .ensures ∙ ap (λ (z : State). isIn z stampedStates) (ap stateOf q ∙ state-number s))
+    (ap (λ (r : Record). r .stamp) (c .before .before .before .before .before .record-of .ensures .0)))))
+    (ap (λ (r : Record). withStamp r stamp)
+    (sym (lowered-fits (record { state = s; dirty = pageOf w .dirty; cached = pageOf w .cached; stamp = 0; migrated = 0; mark = 0 }) (lit< tt) (lit< tt))))
 
 pub refresh-spec : {M : Type 1} → statement M
-refresh-spec = tie.close (tie.spec record-of-requires is-stamped-requires kept-stamp-requires set-state-requires set-stamp-requires set-migrated-requires returns)
+refresh-spec = tie.close (tie.spec record-of-requires is-stamped-requires kept-stamp-requires set-state-requires set-stamp-requires set-migrated-requires
+    returns)

@@ -15,7 +15,9 @@ is-strange-requires : tie.Need-is-strange-requires
 is-strange-requires c κs = search needs
 
 returns : tie.Need-returns
-returns c = let start = c .before .before .before in sym (words-stay (sweptBy (start .args .k)) (start .args .w) (ap isStrange (sym (c .before .before .state-of .ensures .1)) ∙ sym (c .before .is-strange .ensures) ∙ c .if1 .taken))
+returns c = let start = c .before .before .before in
+    sym (words-stay (sweptBy (start .args .k)) (start .args .w)
+    (ap isStrange (sym (c .before .before .state-of .ensures .1)) ∙ sym (c .before .is-strange .ensures) ∙ c .if1 .taken))
 
 swept-requires : tie.Need-swept-requires
 swept-requires c κs = search needs

@@ -21,7 +21,13 @@ is-sent-requires c κs = search needs
 
 returns : tie.Need-returns
 unfolding pageOf listed
-returns c = rw (← c .before .before .before .before .state-of .ensures .1, ← c .before .is-sent .ensures, ← c .before .before .is-listed .ensures, ← ap (λ (x : Record). x .dirty) (c .before .before .before .record-of .ensures .0))
+returns c = rw (
+  ← c .before .before .before .before .state-of .ensures .1,
+  ← c .before .is-sent .ensures,
+  ← c .before .before .is-listed .ensures,
+  ← ap
+      (λ (x : Record). x .dirty) (c .before .before .before .record-of .ensures .0),
+)
 
 pub is-listed-spec : {M : Type 1} → statement M
 is-listed-spec = tie.close (tie.spec state-of-requires record-of-requires is-listed-requires is-sent-requires returns)

@@ -34,12 +34,26 @@ returns c =
     let p = pageOf w in
     let z = goesBy looks (p .state) in
     λ e q.
-    let renews : isIn z renewedStates ≡ true = sym (c .before .before .before .is-renewed .ensures ∙ ap (λ (x : State). isIn x renewedStates) (ap stateOf q ∙ state-number z)) ∙ c .before .before .if1 .taken in
+    let renews : isIn z renewedStates ≡ true =
+    sym (c .before .before .before .is-renewed .ensures ∙ ap (λ (x : State). isIn x renewedStates) (ap stateOf q ∙ state-number z))
+    ∙ c .before .before .if1 .taken in
     let stamp = low 16 (c .before .before .before .before .before .args .clock .tlb) in
     rw renews
-    (words-set (λ (r : Record). withStamp (withDirty (withState r (numberOf z)) false) stamp) w _ (record { state = z; dirty = false; cached = p .cached; stamp = c .before .before .before .before .before .args .clock .tlb; migrated = p .migrated; mark = p .mark }) (search needs) e
-    (c .set-stamp .ensures ∙ ap (λ (r : Record). withStamp r stamp) (c .before .set-dirty .ensures ∙ ap (λ (r : Record). withDirty r false) (c .before .before .before .before .set-state .ensures ∙ ap (withState (recordOf (w .word))) q)))
-    (ap (λ (r : Record). withStamp r stamp) (sym (lowered-fits (record { state = z; dirty = false; cached = p .cached; stamp = 0; migrated = p .migrated; mark = 0 }) (lit< tt) (read-held w e .migrated)))))
+    (words-set (λ (r : Record). withStamp (withDirty (withState r (numberOf z)) false) stamp) w _
+    (record {
+      state = z;
+      dirty = false;
+      cached = p .cached;
+      stamp = c .before .before .before .before .before .args .clock .tlb;
+      migrated =
+          p .migrated;
+      mark = p .mark;
+    }) (search needs) e
+    (c .set-stamp .ensures ∙ ap (λ (r : Record). withStamp r stamp) (c .before .set-dirty .ensures
+    ∙ ap (λ (r : Record). withDirty r false) (c .before .before .before .before .set-state .ensures ∙ ap (withState (recordOf (w .word))) q)))
+    (ap (λ (r : Record). withStamp r stamp)
+    (sym (lowered-fits (record { state = z; dirty = false; cached = p .cached; stamp = 0; migrated = p .migrated; mark = 0 }) (lit< tt)
+    (read-held w e .migrated)))))
 
 returns-2 : tie.Need-returns-2
 unfolding pageOf renewed
@@ -48,7 +62,8 @@ returns-2 c =
     let p = pageOf w in
     let z = goesBy looks (p .state) in
     λ e q.
-    let renews : isIn z renewedStates ≡ false = sym (c .before .is-renewed .ensures ∙ ap (λ (x : State). isIn x renewedStates) (ap stateOf q ∙ state-number z)) ∙ c .if1 .left in
+    let renews : isIn z renewedStates ≡ false = sym (c .before .is-renewed .ensures ∙ ap (λ (x : State). isIn x renewedStates) (ap stateOf q ∙ state-number z))
+    ∙ c .if1 .left in
     rw renews
     (words-set (λ (r : Record). withState r (numberOf z)) w _ (looked p) (search needs) e
     (c .before .before .set-state .ensures ∙ ap (withState (recordOf (w .word))) q)

@@ -18,7 +18,11 @@ entry-word-requires c κs = search needs
 
 returns : tie.Need-returns
 unfolding listedWord
-returns c = rw (← c .before .before .before .state-of .ensures .1, ← c .before .hint-of .ensures, ← c .before .before .is-pending .ensures) (c .entry-word .ensures)
+returns c = rw (
+  ← c .before .before .before .state-of .ensures .1,
+  ← c .before .hint-of .ensures,
+  ← c .before .before .is-pending .ensures,
+) (c .entry-word .ensures)
 
 pub listed-word-spec : {M : Type 1} → statement M
 listed-word-spec = tie.close (tie.spec state-of-requires is-pending-requires hint-of-requires entry-word-requires returns)

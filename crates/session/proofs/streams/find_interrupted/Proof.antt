@@ -52,7 +52,16 @@ loop-again c =
     let at-loop = at-resting .before .before .before in
     let found = at-loop .loop .inv .1 in (
       omega arith,
-      rw (add-one (at-loop .loop .i), ap (λ (x : Found). x .any) found, ap (λ (x : Found). x .outside) found, ap (λ (x : Found). x .unusable) found, at-resting .is-resting .ensures, at-in-range .is-in-range .ensures, c .is-usable .ensures),
+      rw (
+        add-one (at-loop .loop .i),
+        ap (λ (x : Found). x .any) found,
+        ap (λ (x : Found). x .outside) found,
+        ap
+            (λ (x : Found). x .unusable) found,
+        at-resting .is-resting .ensures,
+        at-in-range .is-in-range .ensures,
+        c .is-usable .ensures,
+      ),
     )
 
 returns : tie.Need-returns Inv-loop μ-loop

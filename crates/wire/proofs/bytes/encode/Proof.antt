@@ -13,13 +13,23 @@ use Rattle.wire.proofs.bytes.encode.Statement.{statement}
 use Rattle.wire.proofs.bytes.encode.Tie as tie
 
 -- a turn
-next : (b w : List ℕ) (i : ℕ) → i < length w → length b ≡ 8 * length w → take (8 * i) b ≡ bytesOf (take i w) → take (8 * (i + 1)) (putWord b (8 * i) (getD w i 0)) ≡ bytesOf (take (i + 1) w)
+next : (b w : List ℕ) (i : ℕ) → i < length w → length b ≡ 8 * length w → take (8 * i) b ≡ bytesOf (take i w) →
+    take (8 * (i + 1)) (putWord b (8 * i) (getD w i 0)) ≡ bytesOf (take (i + 1) w)
 next b w i h k e =
     let more : 8 * (i + 1) ≡ 8 * i + 8 = omega arith in
     let room : 8 * i + 8 ≤ length b = omega arith in
     let done = take (8 * i) b ++ wordBytes (getD w i 0) in
     let long : length done ≡ 8 * i + 8 = simp (length-append, length-take-le (8 * i) b (omega arith)) in
-    rw (more, put-word b (8 * i) (getD w i 0) room, take-at done (drop (8 * i + 8) b) (8 * i + 8) long, add-one i, take-suc w i 0 h, bytes-append (take i w) (getD w i 0 ∷ []), e)
+    rw (
+      more,
+      put-word b (8 * i) (getD w i 0) room,
+      take-at done (drop (8 * i + 8) b) (8 * i + 8) long,
+      add-one i,
+      take-suc w i 0 h,
+      bytes-append (take i w)
+          (getD w i 0 ∷ []),
+      e,
+    )
 
 abbrev Inv-loop : tie.InvT-loop
 Inv-loop words b₀ n i₀ b i = (i ≤ n) × (take (8 * i) b ≡ bytesOf (take i words)) × (length b ≡ length b₀)

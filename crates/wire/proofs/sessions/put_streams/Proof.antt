@@ -16,12 +16,14 @@ use Rattle.wire.proofs.sessions.put_streams.Statement.{statement}
 use Rattle.wire.proofs.sessions.put_streams.Tie as tie
 
 -- a turn
-next : (w₀ w : List ℕ) (s : Session) (i : ℕ) → w ≡ sets w₀ streamsPlace (streamsFrom s i 0) → sets w (streamPlace i) (five (workWords (workOf s i))) ≡ sets w₀ streamsPlace (streamsFrom s (i + 1) 0)
+next : (w₀ w : List ℕ) (s : Session) (i : ℕ) → w ≡ sets w₀ streamsPlace (streamsFrom s i 0) →
+    sets w (streamPlace i) (five (workWords (workOf s i))) ≡ sets w₀ streamsPlace (streamsFrom s (i + 1) 0)
 next w₀ w s i e =
     let more : streamsPlace + length (streamsFrom s i 0) ≡ streamPlace i = omega (arith, streams-length s i 0) in
     ap (λ (l : List ℕ). sets l (streamPlace i) (five (workWords (workOf s i)))) e
     ∙ sets-then w₀ (streamsFrom s i 0) (five (workWords (workOf s i))) streamsPlace (streamPlace i) more
-    ∙ ap (sets w₀ streamsPlace) (ap (λ (k : ℕ). streamsFrom s i 0 ++ five (workWords (workOf s k))) (sym (zero-add i)) ∙ sym (streams-next s i 0) ∙ ap (λ (k : ℕ). streamsFrom s k 0) (sym (add-one i)))
+    ∙ ap (sets w₀ streamsPlace) (ap (λ (k : ℕ). streamsFrom s i 0 ++ five (workWords (workOf s k))) (sym (zero-add i)) ∙ sym (streams-next s i 0)
+    ∙ ap (λ (k : ℕ). streamsFrom s k 0) (sym (add-one i)))
 
 abbrev Inv-loop : tie.InvT-loop
 Inv-loop w₀ s i₀ w i = (i ≤ streamPlaces) × (w ≡ sets w₀ streamsPlace (streamsFrom s i 0)) × (length w ≡ length w₀)

@@ -31,7 +31,9 @@ loop-less c = search needs
 loop-again : tie.Need-loop-again Inv-loop μ-loop
 loop-again c = (
   omega arith,
-  rw (add-one (c .before .loop .i)) (take-suc-set (c .before .loop .b) (c .before .loop .i) 0 (omega arith) ∙ ap (λ (l : List ℕ). l ++ (0 ∷ [])) (c .before .loop .inv .1) ∙ replicate-append-replicate (c .before .loop .i) 1 0 ∙ ap (λ (n : ℕ). replicate n 0) (add-one (c .before .loop .i))),
+  rw (add-one (c .before .loop .i)) (take-suc-set (c .before .loop .b) (c .before .loop .i) 0 (omega arith)
+      ∙ ap (λ (l : List ℕ). l ++ (0 ∷ [])) (c .before .loop .inv .1) ∙ replicate-append-replicate (c .before .loop .i) 1 0
+      ∙ ap (λ (n : ℕ). replicate n 0) (add-one (c .before .loop .i))),
   simp length-set (c .before .loop .inv .2),
 )
 

@@ -40,7 +40,8 @@ returns c =
     let at-load = at-is-sought .before in
     let at-loop-test = at-load .before in
     let at-loop = at-loop-test .before in
-    sym (lowest-found _ _ _ _ (at-loop-test .loop-test .taken) (rw (← at-load .load .ensures, ← at-is-sought .is-sought .ensures) (c .if1 .taken))) ∙ at-loop .loop .inv .1 ∙ whole (at-loop .before .before .args .b .now) _
+    sym (lowest-found _ _ _ _ (at-loop-test .loop-test .taken) (rw (← at-load .load .ensures, ← at-is-sought .is-sought .ensures) (c .if1 .taken)))
+    ∙ at-loop .loop .inv .1 ∙ whole (at-loop .before .before .args .b .now) _
 
 add-i : tie.Need-add-i Inv-loop μ-loop
 add-i c = search needs
@@ -53,8 +54,11 @@ loop-again c =
     let at-is-sought = c .before in
     let at-load = at-is-sought .before in
     let at-loop-test = at-load .before in
-    let at-loop = at-loop-test .before in
-    (omega arith, sym (lowest-next _ _ _ _ (at-loop-test .loop-test .taken) (rw (← at-load .load .ensures, ← at-is-sought .is-sought .ensures) (c .if1 .left))) ∙ at-loop .loop .inv .1)
+    let at-loop = at-loop-test .before in (
+      omega arith,
+      sym (lowest-next _ _ _ _ (at-loop-test .loop-test .taken) (rw (← at-load .load .ensures, ← at-is-sought .is-sought .ensures) (c .if1 .left)))
+          ∙ at-loop .loop .inv .1,
+    )
 
 returns-2 : tie.Need-returns-2 Inv-loop μ-loop
 returns-2 c =

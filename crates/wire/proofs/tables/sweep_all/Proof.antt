@@ -59,7 +59,8 @@ returns : tie.Need-returns Inv-loop μ-loop
 returns c =
     let b₀ = c .before .before .before .args .b .now in
     let end : c .before .loop .i ≡ length b₀ / 16 = omega arith in
-    rw (← sweep-first (onWords (sweptBy (c .before .before .before .args .k))) (wordsOf b₀), page-count b₀, ← end) (sym (bytes-back (c .before .loop .b) (c .before .loop .inv .3) (omega arith)) ∙ ap bytesOf (c .before .loop .inv .1))
+    rw (← sweep-first (onWords (sweptBy (c .before .before .before .args .k))) (wordsOf b₀), page-count b₀, ← end)
+    (sym (bytes-back (c .before .loop .b) (c .before .loop .inv .3) (omega arith)) ∙ ap bytesOf (c .before .loop .inv .1))
 
 pub sweep-all-spec : {M : Type 1} → statement M
 sweep-all-spec =

@@ -94,4 +94,5 @@ unfolding stands
 returns-20 c = ranged Free keys 27 2 _ tt (search needs) (omega arith) (omega arith)
 
 pub class-of-spec : {M : Type 1} → statement M
-class-of-spec = tie.close (tie.spec returns returns-2 returns-3 returns-4 returns-5 returns-6 returns-7 returns-8 returns-9 returns-10 returns-11 returns-12 returns-13 returns-14 returns-15 returns-16 returns-17 returns-18 returns-19 returns-20)
+class-of-spec = tie.close (tie.spec returns returns-2 returns-3 returns-4 returns-5 returns-6 returns-7 returns-8 returns-9 returns-10 returns-11 returns-12
+    returns-13 returns-14 returns-15 returns-16 returns-17 returns-18 returns-19 returns-20)
