@@ -14,8 +14,13 @@ use Rattle.page.specs.Page.{Page, pageOf, strange, onWords, tracked}
 use Rattle.page.specs.declared.PageWords.{PageWords}
 use Rattle.session.specs.Session.{among}
 use Rattle.session.specs.declared.Phase.the-variants.{Live}
+use Rattle.session.specs.declared.Session.{Session}
 use Rattle.entry.specs.declared.Ground.{Ground}
 use Rattle.entry.specs.declared.Taken.{Taken}
+
+-- what of the session an entry depends on
+unfoldable pub groundOf : Session → Ground
+groundOf s = record { phase = s .phase; clock = s .clock; epoch = s .epoch; pages = s .fixed .pages }
 
 -- reserved bits, LEVEL or MIG_TYPE not 0, or OPERATION 2 or 3
 unfoldable pub invalid : Entry → Bool

@@ -4,11 +4,12 @@ ghost use mathlib.Core.Bool.{cond, false};
 ghost use Rattle.states.specs.States.{numberOf, goesBy};
 ghost use Rattle.states.specs.Lists.{exports};
 ghost use Rattle.page.specs.Page.{pageOf, strange, wordsFor, onWords};
-ghost use Rattle.entry.specs.Entry.{invalid, unexportable, statusOf, answerWord, exportedPage, sentEntry, failedEntry, takenOf};
+ghost use Rattle.entry.specs.Entry.{groundOf, invalid, unexportable, statusOf, answerWord, exportedPage, sentEntry, failedEntry, takenOf};
 use page::Clock;
 use page::PageWords;
 use page::queries;
 use session::Phase;
+use session::Session;
 use words::entries;
 use words::entries::Entry;
 use words::operations;
@@ -22,6 +23,19 @@ pub struct Ground {
     pub epoch: u64,
     // The page count.
     pub pages: u64,
+}
+
+pub fn ground_of(s: Session) -> Ground
+    ensures { λ r. ⌜ r ≡ groundOf s ⌝ }
+{
+    let phase = s.phase;
+    let clock = s.clock;
+    Ground {
+        phase,
+        clock,
+        epoch: s.epoch,
+        pages: s.fixed.pages as u64,
+    }
 }
 
 pub struct Taken {

@@ -16,13 +16,13 @@ use Rattle.table.specs.Table.{pageCount, wordsAt, pageAt}
 use Rattle.session.specs.Session.{workOf}
 use Rattle.session.specs.declared.Session.{Session}
 use Rattle.entry.specs.declared.Ground.{Ground}
-use Rattle.entry.specs.Entry.{unexportable, exportedPage}
+use Rattle.entry.specs.Entry.{groundOf, unexportable, exportedPage}
 use Rattle.entry.proofs.Laws.{status-success, taken-status, taken-sent, taken-failed, taken-strange, exported-page}
 use Rattle.lists.specs.Run.{Standing, standing, wordOf, gpaOf, taking, stepped, listRun}
 use Rattle.lists.specs.List.{isOver}
 use Rattle.lists.specs.declared.runs.Progress.{Progress}
 use Rattle.lists.proofs.Moves.{step-words, step-kept, run-each}
-use Rattle.export.specs.Export.{exportCode, groundOf, exportStep, begunBy, finishedBy, ExportOutcome, refusedExport, ranExport, exportOut}
+use Rattle.export.specs.Export.{exportCode, exportStep, begunBy, finishedBy, ExportOutcome, refusedExport, ranExport, exportOut}
 use Rattle.export.specs.declared.ExportAnswer.{ExportAnswer}
 
 -- a success moves the page that the entry names, and a failure leaves it

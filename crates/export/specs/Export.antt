@@ -13,6 +13,7 @@ use Rattle.session.specs.Formed.{gated, usable, workResting}
 use Rattle.session.specs.declared.Session.{Session}
 use Rattle.session.specs.declared.streams.Work.{Work}
 use Rattle.session.specs.declared.streams.Work.the-variants.{AtRest, Interrupted}
+use Rattle.entry.specs.Entry.{groundOf}
 use Rattle.entry.specs.declared.Ground.{Ground}
 use Rattle.lists.specs.Kinds.{Step, takenBy}
 use Rattle.lists.specs.Run.{Standing, standing, listRun}
@@ -55,9 +56,6 @@ unfoldable pub exportCode : Session → ℕ → ℕ → ℕ → ℕ → Bool →
 exportCode s len entries room stream resume x = gated s len moving (exportTests s entries room stream resume x)
 
 -- ---- the call
-
-unfoldable pub groundOf : Session → Ground
-groundOf s = record { phase = s .phase; clock = s .clock; epoch = s .epoch; pages = s .fixed .pages }
 
 -- what becomes of one entry
 abbrev pub exportStep : Ground → Step

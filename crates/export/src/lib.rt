@@ -2,8 +2,7 @@
 ghost use mathlib.Core.Path.{_≡_};
 ghost use Prim.Native.Nat.{_+_, _≤_};
 ghost use Rattle.session.specs.Formed.{lastEntry};
-ghost use Rattle.export.specs.Export.{resumable, exportCode, groundOf, begunBy, macPages, finishedBy, exportOut};
-use entry::Ground;
+ghost use Rattle.export.specs.Export.{resumable, exportCode, begunBy, macPages, finishedBy, exportOut};
 use lists::Kind;
 use lists::runs;
 use lists::runs::Progress;
@@ -83,19 +82,6 @@ fn export_code(
         return codes::OPERAND_INVALID; // after 44
     }
     codes::DONE
-}
-
-fn ground_of(s: Session) -> Ground
-    ensures { λ r. ⌜ r ≡ groundOf s ⌝ }
-{
-    let phase = s.phase;
-    let clock = s.clock;
-    Ground {
-        phase,
-        clock,
-        epoch: s.epoch,
-        pages: s.fixed.pages as u64,
-    }
 }
 
 // Where a call on the stream goes on.
@@ -190,7 +176,7 @@ pub fn export(
             session: s,
         };
     }
-    let g = ground_of(s);
+    let g = entry::ground_of(s);
     let work = streams::work_of(s, stream);
     let from = begin(work);
     let at = runs::run_entries(table, list, buffer, from, x.last, budget, Kind::Export, g);

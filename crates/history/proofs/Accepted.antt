@@ -26,7 +26,7 @@ use Rattle.migration.specs.Migration.{sweepNext, aloneNext}
 use Rattle.migration.specs.Token.{tokenTests, tokenCode}
 use Rattle.migration.specs.declared.Alone.{Alone}
 use Rattle.migration.specs.declared.Alone.the-variants.{NewEpoch, Reset}
-use Rattle.migration.proofs.Laws.{SweepOpen, AloneOpen}
+use Rattle.migration.proofs.Laws.{SweepOpen, AloneOpen, alone-leaves}
 use Rattle.scan.specs.Look.{lookOf}
 use Rattle.scan.specs.Scan.{stopTests, stopCode, ScanOut, scanRun, partOf, rangeRun, checkedBy, dcheckTests, dcheckCode, dcheckOf}
 use Rattle.scan.specs.declared.Scan.{Scan}
@@ -35,7 +35,8 @@ use Rattle.scan.proofs.Outcomes.{dchecked}
 use Rattle.lists.specs.Run.{standing}
 use Rattle.lists.specs.List.{isOver}
 use Rattle.lists.proofs.Laws.{Bounds, run-bounds}
-use Rattle.export.specs.Export.{exportTests, exportCode, groundOf, exportStep, begunBy, finishedBy}
+use Rattle.entry.specs.Entry.{groundOf}
+use Rattle.export.specs.Export.{exportTests, exportCode, exportStep, begunBy, finishedBy}
 use Rattle.export.specs.declared.ExportAnswer.{ExportAnswer}
 use Rattle.export.proofs.Laws.{export-ready}
 use Rattle.export.proofs.Moves.{exported}
@@ -70,8 +71,7 @@ alone-made NewEpoch s len o = epoch-formed (formed-means s len (o .formed)) (o .
 alone-made Reset s len o = reset-formed (formed-means s len (o .formed))
 
 pub alone-streams : (k : Alone) (s : Session) → length (s .streams) ≡ streamPlaces → length (aloneNext k s .streams) ≡ streamPlaces
-alone-streams NewEpoch s n = n
-alone-streams Reset s n = n
+alone-streams k s n = rw (alone-leaves k s .streams) n
 
 -- ---- the token
 

@@ -22,7 +22,8 @@ use Rattle.entry.specs.declared.Ground.{Ground}
 use Rattle.lists.specs.Run.{Standing, standing, wordOf, gpaOf, taking, counted, stepped, listRun}
 use Rattle.lists.proofs.Laws.{run-keeps}
 use Rattle.lists.proofs.Moves.{step-words, step-other, step-length}
-use Rattle.export.specs.Export.{exportTests, exportCode, groundOf, exportStep, begunBy}
+use Rattle.entry.specs.Entry.{groundOf}
+use Rattle.export.specs.Export.{exportTests, exportCode, exportStep, begunBy}
 use Rattle.export.proofs.Laws.{export-ready}
 use Rattle.export.proofs.Moves.{exported}
 use Rattle.history.proofs.Exports.{begins}

@@ -27,7 +27,7 @@ use Rattle.migration.proofs.Grant.{paused-is}
 use Rattle.migration.specs.Migration.{sweepNext, sweepCode, onAll, aloneNext, aloneCode, onSession}
 use Rattle.migration.specs.Token.{tokenTests, tokenCode, tokenOut}
 use Rattle.migration.specs.declared.Alone.{Alone}
-use Rattle.migration.specs.declared.Alone.the-variants.{NewEpoch, Reset}
+use Rattle.migration.proofs.Laws.{alone-leaves}
 use Rattle.scan.specs.Scan.{checkedBy, ScanOutcome, dscanOut, dcheckOut}
 use Rattle.scan.proofs.Outcomes.{answer-session, dscanned, dscan-either, dchecked, dcheck-either}
 use Rattle.export.specs.Export.{ExportOutcome, exportOut}
@@ -130,8 +130,7 @@ module _ (w : World) (l b : List ℕ) (h : Copied (w .session .phase) (w .memory
   sweep-copied Abort = λ x. absurd x
 
   alone-copied : (k : Alone) → Copied (aloneNext k s .phase) (w .memory) (w .copy)
-  alone-copied NewEpoch = h
-  alone-copied Reset = h
+  alone-copied k = rw (alone-leaves k s .phase) h
 
   call-copied : (c : Call) → Copied (after w (given c l b) .session .phase) (after w (given c l b) .memory) (after w (given c l b) .copy)
   unfolding newOut onAll onSession

@@ -24,10 +24,10 @@ use Rattle.migration.specs.Migration.{sweepCode, onAll, aloneCode, onSession}
 use Rattle.migration.specs.Token.{tokenCode, inTheWay, tokenFor, tokenOut}
 use Rattle.scan.specs.Look.{listed, listedWord, renewed, lookOf}
 use Rattle.scan.specs.Scan.{stopCode, endCode, scanRun, rangeRun, answerOf, checkedBy, withinTable, dscanCode, dscanOut, dcheckCode, dcheckOut}
-use Rattle.entry.specs.Entry.{invalid, unexportable, statusOf, answerWord, sentEntry, failedEntry, takenOf}
+use Rattle.entry.specs.Entry.{groundOf, invalid, unexportable, statusOf, answerWord, sentEntry, failedEntry, takenOf}
 use Rattle.lists.specs.Run.{counted, stepped, listRun}
 use Rattle.lists.specs.List.{infoBack}
-use Rattle.export.specs.Export.{exportCode, groundOf, macPages, finishedBy, exportOut}
+use Rattle.export.specs.Export.{exportCode, macPages, finishedBy, exportOut}
 use Rattle.bundle.specs.Bundle.{Sent, Rising}
 use Rattle.history.specs.Earning.{Fair, Full, Whole, mostLists}
 use Rattle.history.specs.Example.{reordered, moved, toPause, Met}

@@ -30,7 +30,8 @@ use Rattle.lists.specs.List.{isOver, infoBack}
 use Rattle.lists.specs.declared.runs.Progress.{Progress}
 use Rattle.lists.proofs.Laws.{run-keeps, run-bounds, back-next}
 use Rattle.lists.proofs.Moves.{step-length}
-use Rattle.export.specs.Export.{noResumption, noNewCall, notFrom0, exportTests, exportCode, groundOf, exportStep, begunBy, finishedBy, ExportOutcome, ranExport}
+use Rattle.entry.specs.Entry.{groundOf}
+use Rattle.export.specs.Export.{noResumption, noNewCall, notFrom0, exportTests, exportCode, exportStep, begunBy, finishedBy, ExportOutcome, ranExport}
 use Rattle.export.specs.Export.{exportOut}
 use Rattle.export.specs.declared.ExportAnswer.{ExportAnswer}
 use Rattle.export.proofs.Laws.{export-ready}

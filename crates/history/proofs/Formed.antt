@@ -37,7 +37,8 @@ use Rattle.lists.specs.Run.{standing}
 use Rattle.lists.specs.List.{isOver}
 use Rattle.lists.specs.declared.runs.Progress.{Progress}
 use Rattle.lists.proofs.Promises.{run-promises}
-use Rattle.export.specs.Export.{exportCode, groundOf, exportStep, begunBy, finishedBy, ExportOutcome, exportOut}
+use Rattle.entry.specs.Entry.{groundOf}
+use Rattle.export.specs.Export.{exportCode, exportStep, begunBy, finishedBy, ExportOutcome, exportOut}
 use Rattle.export.specs.declared.ExportAnswer.{ExportAnswer}
 use Rattle.export.proofs.Moves.{exported, export-either}
 use Rattle.calls.specs.Calls.{effectOf}

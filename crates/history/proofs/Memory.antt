@@ -30,7 +30,8 @@ use Rattle.scan.specs.Scan.{ScanOutcome, dscanTests, dscanCode, dscanOf, dscanO
 use Rattle.scan.proofs.Laws.{dscan-fits, dcheck-fits}
 use Rattle.scan.proofs.Outcomes.{dscan-either, dcheck-either}
 use Rattle.lists.specs.Run.{standing}
-use Rattle.export.specs.Export.{exportTests, exportCode, groundOf, begunBy, ExportOutcome, exportOut}
+use Rattle.entry.specs.Entry.{groundOf}
+use Rattle.export.specs.Export.{exportTests, exportCode, begunBy, ExportOutcome, exportOut}
 use Rattle.calls.specs.Calls.{Effect}
 use Rattle.calls.specs.declared.Call.{Call}
 use Rattle.calls.specs.declared.Call.the-variants.{New, OnPage, OnAll, OnSession, StartToken, Dscan, Dcheck, Export}

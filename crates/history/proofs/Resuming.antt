@@ -29,7 +29,8 @@ use Rattle.session.proofs.FormedLaws.{formed-means, means-busy}
 use Rattle.lists.specs.Run.{Standing, standing}
 use Rattle.lists.specs.List.{isOver}
 use Rattle.lists.proofs.Laws.{run-far}
-use Rattle.export.specs.Export.{noResumption, noNewCall, notFrom0, exportTests, exportCode, groundOf, exportStep, begunBy, doneBy, interruptedBy, finishedBy}
+use Rattle.entry.specs.Entry.{groundOf}
+use Rattle.export.specs.Export.{noResumption, noNewCall, notFrom0, exportTests, exportCode, exportStep, begunBy, doneBy, interruptedBy, finishedBy}
 use Rattle.export.specs.Export.{ExportOutcome, ranExport, exportOut}
 use Rattle.export.specs.declared.ExportAnswer.{ExportAnswer}
 use Rattle.export.proofs.Moves as moves

@@ -27,8 +27,7 @@ use Rattle.memory.proofs.Laws.{page-either}
 use Rattle.migration.specs.Migration.{sweepNext, aloneNext, onSession}
 use Rattle.migration.specs.Token.{tokenTests, tokenCode, tokenOut}
 use Rattle.migration.specs.declared.Alone.{Alone}
-use Rattle.migration.specs.declared.Alone.the-variants.{NewEpoch, Reset}
-use Rattle.migration.proofs.Laws.{SweepOpen, alone-either}
+use Rattle.migration.proofs.Laws.{SweepOpen, alone-either, alone-leaves}
 use Rattle.scan.specs.Scan.{rangeRun, checkedBy, ScanOutcome, dscanTests, dscanCode, dscanOf, dscanOut, dcheckTests, dcheckCode, dcheckOf, dcheckOut}
 use Rattle.scan.specs.declared.Scan.{Scan}
 use Rattle.scan.proofs.Laws.{dscan-fits, dcheck-fits}
@@ -119,8 +118,9 @@ module _ (s : Session) (t : List ℕ) (log : List Sent) (f : Stands s t log) whe
       (f .rows))
 
   next-stands : (k : Alone) → Stands (aloneNext k s) t log
-  next-stands NewEpoch = fine-steps (omega arith) (record { size = refl; at = λ i h. session-step _ _ (pageAt t i) (omega arith) refl (λ u. u) }) f
-  next-stands Reset = f
+  next-stands k =
+      let e = alone-leaves k s in
+      rw (e .phase) (fine-steps (e .epoch) (record { size = refl; at = λ i h. session-step (momentOf s) _ (pageAt t i) (e .epoch) (e .clock) (λ u. u) }) f)
 
   pub alone-stands : (k : Alone) → Leaves log (onSession k s t)
   alone-stands k = alone-either (Leaves log) k s t (λ o. next-stands k) (λ e. f)

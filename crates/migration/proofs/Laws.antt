@@ -3,6 +3,7 @@ use mathlib.Core.Path.{_≡_, refl, ap}
 use mathlib.Core.Bool.{Bool, true, false, cond, not, _||_}
 use mathlib.Core.List.{List, [], _∷_}
 use Prim.Native.Nat.{ℕ, _≤_}
+use native.Mathlib.Omega.{arith}
 use lib.Dec.{eqb, ltb}
 use lib.ListN.{length}
 use borrow.Author.Tests.{eqb-true, ltb-false}
@@ -104,6 +105,17 @@ alone-answer k s len t e = rw (← e)
 -- they leave the table
 pub alone-table : (k : Alone) (s : Session) (t : List ℕ) → onSession k s t .table ≡ t
 alone-table k s t = alone-either (λ (o : Outcome). o .table ≡ t) k s t (λ o. refl) (λ e. refl)
+
+-- and of the session the phase, the clock and the streams; no epoch goes back
+pub record Leaves (s s' : Session) : Type 0 where
+  pub phase : s' .phase ≡ s .phase
+  pub clock : s' .clock ≡ s .clock
+  pub streams : s' .streams ≡ s .streams
+  pub epoch : s .epoch ≤ s' .epoch
+
+pub alone-leaves : (k : Alone) (s : Session) → Leaves s (aloneNext k s)
+alone-leaves NewEpoch s = record { phase = refl; clock = refl; streams = refl; epoch = omega arith }
+alone-leaves Reset s = record { phase = refl; clock = refl; streams = refl; epoch = omega arith }
 
 -- ---- the token
 

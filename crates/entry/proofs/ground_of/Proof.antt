@@ -1,8 +1,8 @@
 -- The ground is the session's own numbers.
 use borrow.Author.Needs.{needs}
-use Rattle.export.specs.Export.{groundOf}
-use Rattle.export.proofs.ground_of.Statement.{statement}
-use Rattle.export.proofs.ground_of.Tie as tie
+use Rattle.entry.specs.Entry.{groundOf}
+use Rattle.entry.proofs.ground_of.Statement.{statement}
+use Rattle.entry.proofs.ground_of.Tie as tie
 
 returns : tie.Need-returns
 unfolding groundOf
