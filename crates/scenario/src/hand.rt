@@ -24,20 +24,19 @@ fn phase_of(n: u64) -> Phase {
 }
 
 // The session with the change that the line asks for.
-pub(crate) fn changed(s: Session, l: Line) -> Session {
+pub(crate) fn changed(mut s: Session, l: Line) -> Session {
     let name = l.name;
     let v = l.first;
     let on = v != 0;
-    let mut next = s;
     match name {
         names::PHASE => return session::with_phase(s, phase_of(v)),
-        names::PAGES => next.fixed.pages = v as usize,
-        names::TLB => next.clock.tlb = v,
-        names::EPOCH => next.epoch = v,
-        names::CREATED => next.fixed.created = v,
-        names::PLACE => next.check.place = v as usize,
-        names::COMPLETE => next.check.complete = on,
-        names::FAILED => next.check.failed = on,
+        names::PAGES => s.fixed.pages = v as usize,
+        names::TLB => s.clock.tlb = v,
+        names::EPOCH => s.epoch = v,
+        names::CREATED => s.fixed.created = v,
+        names::PLACE => s.check.place = v as usize,
+        names::COMPLETE => s.check.complete = on,
+        names::FAILED => s.check.failed = on,
         names::STREAM => {
             let work = Work::Interrupted {
                 next: l.second,
@@ -50,7 +49,7 @@ pub(crate) fn changed(s: Session, l: Line) -> Session {
         names::REST => return streams::with_work(s, v, Work::AtRest),
         _ => {}
     }
-    next
+    s
 }
 
 // How many words of each space are lent, if it has so many.
