@@ -261,8 +261,7 @@ at-turn log A B x w r o = rw held (t .fits)
 pub perm-once : {l₁ l₂ : List Sent} → List·Permᴰ l₁ l₂ → Once l₁ → Once l₂
 perm-once List·Permᴰ·nil o = o
 perm-once (List·Permᴰ·cons e d) o = (
-  λ y m a b. o .0 y (perm-mem (Permᴰ·symm d) m) (a ∙ ap (λ (v : Sent). v .page) (sym e))
-      (b ∙ ap (λ (v : Sent). v .epoch) (sym e)),
+  λ y m a b. o .0 y (perm-mem (Permᴰ·symm d) m) (a ∙ ap (λ (v : Sent). v .page) (sym e)) (b ∙ ap (λ (v : Sent). v .epoch) (sym e)),
   perm-once d (o .1),
 )
 perm-once (List·Permᴰ·swap {a} {b} {a′} {b′} {l} e₁ e₂) o = (

@@ -41,13 +41,11 @@ marked-table =
             (
               λ w q. rw (q refl),
               (
-                λ w q. rw
-                    (q refl),
+                λ w q. rw (q refl),
                 (
                   λ w q. rw (q refl),
                   (
-                    λ w q. rw
-                        (q refl),
+                    λ w q. rw (q refl),
                     (λ w q. rw (q refl), (λ w q. rw (q refl), (λ w q. refl, (λ w q. refl, (λ w q. refl, tt))))),
                   ),
                 ),

@@ -135,8 +135,7 @@ module _ (g : Ground) (paused : g .phase ≡ Blackout) (fits : g .epoch < 2 ^ 16
                 y .0,
                 omega (arith, y .1, ne),
                 y .2,
-                rw (getD-set-other (s .list) (s .at .next) (y .0) (taking (exportStep g) s .word) 0 ne)
-                    (y .3),
+                rw (getD-set-other (s .list) (s .at .next) (y .0) (taking (exportStep g) s .word) 0 ne) (y .3),
               ))
             ]
 

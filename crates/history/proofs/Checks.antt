@@ -121,8 +121,7 @@ few-lists d (a ∷ l) (suc k) w n c ls m unfinished inside enough far =
         (omega (
           arith,
           with-few (entriesOf (effectIn w (asking a))) (checked v l .lists),
-          rest (x .incomplete) (x .inside) (λ b k. enough b (List·Memᴰ·tail k))
-              (omega (arith, far, x .far, suc-mul k d)),
+          rest (x .incomplete) (x .inside) (λ b k. enough b (List·Memᴰ·tail k)) (omega (arith, far, x .far, suc-mul k d)),
         ))
 
 -- ---- the reset

@@ -206,8 +206,7 @@ module _ (s : Session) (t l : List ℕ) (budget : ℕ) (f : formed s (length t) 
       go : (w : Swept (dcheckOf s budget) count t l ran) → Ending budget (length l) (ran .scanned .code) (w .at) count → GetsOn d (s .check .place) n made
       go w (inl x) = inl (
         rw (answer-code (ran .scanned) (checkedBy s (ran .scanned)), x .code),
-        rw
-            (answer-session (ran .scanned) (checkedBy s (ran .scanned)), x .code),
+        rw (answer-session (ran .scanned) (checkedBy s (ran .scanned)), x .code),
       )
       go w (inr (inl x)) = inr (further w (rw (x .code)) (spent (w .at) (x .spent) (omega (arith, x .place, g .pages))) (x .place))
       go w (inr (inr x)) = inr (further w (rw (x .code)) (omega (arith, x .full, room)) (x .place))

@@ -121,8 +121,7 @@ module _ (g : Ground) (s : Standing) where
       rw (
         e,
         told-word (wordOf s) (isIn (page .state) pendingStates) operation 0 (operation-lt (page .state)) (lit< tt),
-        exported-has page (x .able)
-            (x .clean) .operates,
+        exported-has page (x .able) (x .clean) .operates,
       )
 
   left-adds : eqb (statusOf (entryOf (wordOf s)) page g) 0 ≡ false → adds ≡ []

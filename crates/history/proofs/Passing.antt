@@ -126,8 +126,7 @@ module _ (scan : Scan) (n space i put : ℕ) (part list : List ℕ) (tlb : scan 
       names = (
         look .word,
         Memᴰ·append-right (take put list) (List·Memᴰ·head refl),
-        listed-names (pageAt part i .state) (scan .first + i)
-            (omega (arith, fits, l)),
+        listed-names (pageAt part i .state) (scan .first + i) (omega (arith, fits, l)),
       )
 
       go : (b : Bool) → look .listed ≡ b → Passing scan n space (i + 1) (cond b (put + 1) put) (cond b (putAt part i (look .words)) part) (cond b

@@ -55,8 +55,7 @@ sweep-left k s t a x y e h =
       refl,
       (
         either-kept (refusal code) (session-kept s (length t) x e),
-        either-kept (refusal code)
-            (table-kept t y (readable-means s (length t) e .table)),
+        either-kept (refusal code) (table-kept t y (readable-means s (length t) e .table)),
       ),
     )))
 

@@ -40,8 +40,7 @@ alone-left k s t a y e h =
       refl,
       (
         refl,
-        either-kept (refusal (onSession k (sessionOf (wordsOf s)) (wordsOf t) .answer .code))
-            (table-kept t y (readable-means s (length t) e .table)),
+        either-kept (refusal (onSession k (sessionOf (wordsOf s)) (wordsOf t) .answer .code)) (table-kept t y (readable-means s (length t) e .table)),
       ),
     )
 
@@ -63,7 +62,6 @@ token-left s t a code page y e h n p =
       refl,
       (
         refl,
-        either-kept (refusal (tokenSays (tokenOut (sessionOf (wordsOf s)) (wordsOf t) .token) .code))
-            (table-kept t y (readable-means s (length t) e .table)),
+        either-kept (refusal (tokenSays (tokenOut (sessionOf (wordsOf s)) (wordsOf t) .token) .code)) (table-kept t y (readable-means s (length t) e .table)),
       ),
     )

@@ -44,8 +44,7 @@ put-same t i w h =
       length-set,
       lt-ltb i (pageCount t) h,
       getD-set-other v (2 * i + 1) (2 * i) (w .mark) 0 apart,
-      getD-set-same t
-          (2 * i) (w .word) 0 in-t,
+      getD-set-same t (2 * i) (w .word) 0 in-t,
       getD-set-same v (2 * i + 1) (w .mark) 0 in-v,
     )
 
@@ -65,8 +64,7 @@ put-other t i k w ne = go (ltb i (pageCount t))
           length-set,
           getD-set-other v (2 * i + 1) (2 * k) (w .mark) 0 a,
           getD-set-other t (2 * i) (2 * k) (w .word) 0 b,
-          getD-set-other v
-              (2 * i + 1) (2 * k + 1) (w .mark) 0 c,
+          getD-set-other v (2 * i + 1) (2 * k + 1) (w .mark) 0 c,
           getD-set-other t (2 * i) (2 * k + 1) (w .word) 0 d,
         )
     go false = refl

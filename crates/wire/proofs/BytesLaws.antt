@@ -103,8 +103,7 @@ half-back a b c d ha hb hc hd =
       digits-left b (c + 256 * d) hb,
       digits-left c d hc,
       digit a (b + 256 * (c + 256 * d)) ha,
-      digit b
-          (c + 256 * d) hb,
+      digit b (c + 256 * d) hb,
       digit c d hc,
       last,
     )
@@ -132,8 +131,7 @@ words-front b (suc n) y h =
       more,
       take-add (8 * n) 8 b,
       here,
-      word-back
-          (drop (8 * n) b) bytes (rw (length-drop (8 * n) b) (omega arith)),
+      word-back (drop (8 * n) b) bytes (rw (length-drop (8 * n) b) (omega arith)),
     )
 
 pub bytes-back : (b : List ℕ) → Bytes b → length b % 8 ≡ 0 → bytesOf (wordsOf b) ≡ b

@@ -57,8 +57,7 @@ tested c =
       ← at-cancelled c .is-cancelled .ensures,
       ← read .migrated,
       ← read .dirty,
-      ← ap (λ (x : Comes). x .live)
-          (invalid .before .before .comes-in .ensures),
+      ← ap (λ (x : Comes). x .live) (invalid .before .before .comes-in .ensures),
     )
 
 record-of-requires : tie.Need-record-of-requires

@@ -19,8 +19,7 @@ unfolding takenOf
 returns c = rw (
   ← c .before .before .before .entry-of .ensures .0,
   ← c .before .before .status-of .ensures,
-  eq-eqb _ _
-      (c .before .if1 .taken),
+  eq-eqb _ _ (c .before .if1 .taken),
 ) (c .succeed .ensures)
 
 fail-requires : tie.Need-fail-requires
@@ -31,8 +30,7 @@ unfolding takenOf
 returns-2 c = rw (
   ← c .before .before .before .entry-of .ensures .0,
   ← c .before .before .status-of .ensures,
-  ne-eqb _ _
-      (c .before .if1 .left),
+  ne-eqb _ _ (c .before .if1 .left),
 ) (c .fail .ensures)
 
 pub take-entry-spec : {M : Type 1} → statement M

@@ -86,8 +86,7 @@ returns-2 c =
     rw (
       ← at-info-of .info-of .ensures .0,
       ← at-export-code .export-code .ensures,
-      eq-eqb _ _
-          (at-if1 .if1 .left),
+      eq-eqb _ _ (at-if1 .if1 .left),
       ← at-ground-of .ground-of .ensures,
       ← at-work-of .work-of .ensures,
       ← at-begin .begin .ensures,

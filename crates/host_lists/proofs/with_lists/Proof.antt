@@ -64,8 +64,7 @@ returns c =
     let words = rw (at-list .is-list .ensures, at-list2 .is-list2 .ensures) at (at-if2 .if2 .taken) in
     rw (
       host-played (a .call) x (start .pre .reads) (sym (at-read .read .ensures .0) ∙ at-if1 .if1 .taken) words,
-      ← at-read .read .ensures .1
-          (at-if1 .if1 .taken),
+      ← at-read .read .ensures .1 (at-if1 .if1 .taken),
     ) (at-play .play-lists .ensures)
 
 first-group-requires : tie.Need-first-group-requires

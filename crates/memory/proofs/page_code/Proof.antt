@@ -23,8 +23,7 @@ returns c =
       ← at-is-formed .is-formed .ensures,
       ← at-is-block .is-block .ensures,
       ← ap (λ (x : Comes). x .blackout) (at-comes-in .comes-in .ensures),
-      ← ap
-          (λ (x : Comes). x .guest) (at-comes-in .comes-in .ensures),
+      ← ap (λ (x : Comes). x .guest) (at-comes-in .comes-in .ensures),
       c .if1 .taken,
     )
 
@@ -38,8 +37,7 @@ returns-2 c =
       ← at-is-formed .is-formed .ensures,
       ← at-is-block .is-block .ensures,
       ← ap (λ (x : Comes). x .blackout) (at-comes-in .comes-in .ensures),
-      ← ap
-          (λ (x : Comes). x .guest) (at-comes-in .comes-in .ensures),
+      ← ap (λ (x : Comes). x .guest) (at-comes-in .comes-in .ensures),
       at-if1 .if1 .left,
       c .if2 .taken,
     )
@@ -55,8 +53,7 @@ returns-3 c =
       ← at-is-formed .is-formed .ensures,
       ← at-is-block .is-block .ensures,
       ← ap (λ (x : Comes). x .blackout) (at-comes-in .comes-in .ensures),
-      ← ap
-          (λ (x : Comes). x .guest) (at-comes-in .comes-in .ensures),
+      ← ap (λ (x : Comes). x .guest) (at-comes-in .comes-in .ensures),
       at-if1 .if1 .left,
       at-if2 .if2 .left,
       c .if3 .taken,
@@ -74,8 +71,7 @@ returns-4 c =
       ← at-is-formed .is-formed .ensures,
       ← at-is-block .is-block .ensures,
       ← ap (λ (x : Comes). x .blackout) (at-comes-in .comes-in .ensures),
-      ← ap
-          (λ (x : Comes). x .guest) (at-comes-in .comes-in .ensures),
+      ← ap (λ (x : Comes). x .guest) (at-comes-in .comes-in .ensures),
       at-if1 .if1 .left,
       at-if2 .if2 .left,
       at-if3 .if3 .left,
@@ -98,8 +94,7 @@ returns-5 c =
       ← at-is-formed .is-formed .ensures,
       ← at-is-block .is-block .ensures,
       ← ap (λ (x : Comes). x .blackout) (at-comes-in .comes-in .ensures),
-      ← ap
-          (λ (x : Comes). x .guest) (at-comes-in .comes-in .ensures),
+      ← ap (λ (x : Comes). x .guest) (at-comes-in .comes-in .ensures),
       at-if1 .if1 .left,
       at-if2 .if2 .left,
       at-if3 .if3 .left,

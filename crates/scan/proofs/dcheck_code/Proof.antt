@@ -22,8 +22,7 @@ unfolding dcheckCode
 returns-3 c = rw (
   gate-first,
   ← c .before .before .before .before .gate .ensures,
-  eq-eqb _ _
-      (c .before .before .if1 .left),
+  eq-eqb _ _ (c .before .before .if1 .left),
   c .before .if2 .left,
   c .if3 .taken,
 )

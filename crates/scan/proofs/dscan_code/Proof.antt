@@ -22,8 +22,7 @@ returns-2 c = rw (
   gate-first,
   ← c .before .before .before .gate .ensures,
   ← c .before .before .is-within .ensures,
-  eq-eqb _ _
-      (c .before .if1 .left),
+  eq-eqb _ _ (c .before .if1 .left),
   c .if2 .taken,
 )
 
@@ -33,8 +32,7 @@ returns-3 c = rw (
   gate-first,
   ← c .before .before .before .before .gate .ensures,
   ← c .before .before .before .is-within .ensures,
-  eq-eqb _ _
-      (c .before .before .if1 .left),
+  eq-eqb _ _ (c .before .before .if1 .left),
   c .before .if2 .left,
   c .if3 .taken,
 )
@@ -45,8 +43,7 @@ returns-4 c = rw (
   gate-first,
   ← c .before .before .before .before .gate .ensures,
   ← c .before .before .before .is-within .ensures,
-  eq-eqb _ _
-      (c .before .before .if1 .left),
+  eq-eqb _ _ (c .before .before .if1 .left),
   c .before .if2 .left,
   c .if3 .left,
 )

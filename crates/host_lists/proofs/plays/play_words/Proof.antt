@@ -78,8 +78,7 @@ returns-2 c =
       (
         rw taken (c .before .before .before .before .before .before .before .put-session .ensures),
         (
-          rw taken
-              (c .before .before .encode .ensures ∙ ap bytesOf (rw words at (made .1 .0))),
+          rw taken (c .before .before .encode .ensures ∙ ap bytesOf (rw words at (made .1 .0))),
           (rw words at (made .1 .1 .0), rw words at (made .1 .1 .1)),
         ),
       ),

@@ -25,8 +25,7 @@ unfolding tokenAnswer
 returns-4 c = rw (
   eq-eqb _ _ (c .before .before .before .if1 .left),
   le-ltb _ _ (c .before .before .if2 .left),
-  le-ltb _ _
-      (c .before .if3 .left),
+  le-ltb _ _ (c .before .if3 .left),
   ← c .with-phase .ensures,
 )
 

@@ -21,8 +21,7 @@ returns-2 : tie.Need-returns-2
 returns-2 c = rw (
   gate-first _ _ (phasesOf Blackout) (tokenGate _),
   ← c .before .before .before .before .gate .ensures,
-  eq-eqb _ _
-      (c .before .before .before .if1 .left),
+  eq-eqb _ _ (c .before .before .before .if1 .left),
   ← c .before .before .is-busy .ensures,
   c .if2 .taken,
 )
@@ -35,8 +34,7 @@ returns-3 c =
     rw (
       gate-first _ _ (phasesOf Blackout) (tokenGate _),
       ← at-if1 .before .gate .ensures,
-      eq-eqb _ _
-          (at-if1 .if1 .left),
+      eq-eqb _ _ (at-if1 .if1 .left),
       ← at-is-busy .is-busy .ensures,
       at-if2 .if2 .left,
       c .if3 .taken,
@@ -50,8 +48,7 @@ returns-4 c =
     rw (
       gate-first _ _ (phasesOf Blackout) (tokenGate _),
       ← at-if1 .before .gate .ensures,
-      eq-eqb _ _
-          (at-if1 .if1 .left),
+      eq-eqb _ _ (at-if1 .if1 .left),
       ← at-is-busy .is-busy .ensures,
       at-if2 .if2 .left,
       c .if3 .left,

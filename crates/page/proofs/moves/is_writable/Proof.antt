@@ -25,8 +25,7 @@ returns c = rw (
   ← c .before .before .before .before .state-of .ensures .1,
   ← c .before .is-landing .ensures,
   ← c .before .before .is-writable .ensures,
-  ← ap
-      (λ (x : Record). x .cached) (c .before .before .before .record-of .ensures .0),
+  ← ap (λ (x : Record). x .cached) (c .before .before .before .record-of .ensures .0),
 )
 
 pub is-writable-spec : {M : Type 1} → statement M

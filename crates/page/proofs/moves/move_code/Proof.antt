@@ -93,11 +93,9 @@ returns-5 c = rw (
   ← able Unblock (c .before .before .before .before .before .before .before .before .args .w) _ _
       (search needs) (c .before .before .before .before .before .before .before .state-of .ensures .1)
       (rw (c .before .enum-told5 .given .1) at (c .before .before .before .before .before .goal .ensures)),
-  ← ap (λ (r : Record). r .stamp)
-      (c .before .before .before .before .before .before .record-of .ensures .0),
+  ← ap (λ (r : Record). r .stamp) (c .before .before .before .before .before .before .record-of .ensures .0),
   ← c .before .before .before .before .is-tracked .ensures,
-)
-    (c .leave-code .ensures)
+) (c .leave-code .ensures)
 
 returns-6 : tie.Need-returns-6
 unfolding pageOf
@@ -106,11 +104,9 @@ returns-6 c = rw (
   ← able Remove (c .before .before .before .before .before .before .before .before .args .w) _ _ (search needs)
       (c .before .before .before .before .before .before .before .state-of .ensures .1)
       (rw (c .before .enum-told6 .given .1) at (c .before .before .before .before .before .goal .ensures)),
-  ← ap (λ (r : Record). r .stamp)
-      (c .before .before .before .before .before .before .record-of .ensures .0),
+  ← ap (λ (r : Record). r .stamp) (c .before .before .before .before .before .before .record-of .ensures .0),
   ← c .before .before .before .before .is-tracked .ensures,
-)
-    (c .leave-code2 .ensures)
+) (c .leave-code2 .ensures)
 
 pub move-code-spec : {M : Type 1} → statement M
 move-code-spec = tie.close (tie.spec state-of-requires record-of-requires goal-requires is-tracked-requires is-writable-requires enum-told enter-code-requires

@@ -36,10 +36,8 @@ returns c =
     (rw (
       ← c .before .before .before .before .before .state-of .ensures .1,
       ← c .before .before .before .before .is-writable .ensures,
-      ← ap
-          (λ (r : Record). r .cached) (c .before .before .before .before .before .before .record-of .ensures .0),
-      ← ap (λ (r : Record). r .dirty)
-          (c .before .before .before .before .before .before .record-of .ensures .0),
+      ← ap (λ (r : Record). r .cached) (c .before .before .before .before .before .before .record-of .ensures .0),
+      ← ap (λ (r : Record). r .dirty) (c .before .before .before .before .before .before .record-of .ensures .0),
     )
     (c .set-cached .ensures ∙ ap (λ (r : Record). withCached r true) (c .before .set-dirty .ensures)))
     (sym (lowered-fits q (read-held w e .stamp) (read-held w e .migrated)))

@@ -24,8 +24,7 @@ returns c = rw (
   ← c .before .before .before .before .state-of .ensures .1,
   ← c .before .is-sent .ensures,
   ← c .before .before .is-changed .ensures,
-  ← ap
-      (λ (x : Record). x .dirty) (c .before .before .before .record-of .ensures .0),
+  ← ap (λ (x : Record). x .dirty) (c .before .before .before .record-of .ensures .0),
 )
 
 pub gives-53-spec : {M : Type 1} → statement M

@@ -56,8 +56,7 @@ loop-again c =
         add-one (at-loop .loop .i),
         ap (λ (x : Found). x .any) found,
         ap (λ (x : Found). x .outside) found,
-        ap
-            (λ (x : Found). x .unusable) found,
+        ap (λ (x : Found). x .unusable) found,
         at-resting .is-resting .ensures,
         at-in-range .is-in-range .ensures,
         c .is-usable .ensures,

@@ -26,8 +26,7 @@ next b w i h k e =
       take-at done (drop (8 * i + 8) b) (8 * i + 8) long,
       add-one i,
       take-suc w i 0 h,
-      bytes-append (take i w)
-          (getD w i 0 ∷ []),
+      bytes-append (take i w) (getD w i 0 ∷ []),
       e,
     )
 
