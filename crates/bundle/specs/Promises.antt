@@ -11,8 +11,7 @@ pub record Receives : Type 0 where
   pub others : (d : ℕ → Holding) (x : Sent) (i : ℕ) → (x .page ≡ i → ⊥) → replay d (x ∷ []) i ≡ d i
 
 -- many: where an epoch has at most one entry of a page, the entry of a page's latest epoch decides, in every order that keeps the epochs; a page without an
--- entry
--- stays absent
+-- entry stays absent
 pub record LastDecides : Type 0 where
   pub last : (log l : List Sent) → Once log → Order log l → (x : Sent) → List·Memᴰ x log →
       ((y : Sent) → List·Memᴰ y log → y .page ≡ x .page → y .epoch ≤ x .epoch) → replay nothing l (x .page) ≡ madeBy x

@@ -97,9 +97,9 @@ pub record StrangeStays : Type 0 where
       wordsAt (effectOf c s t l b .table) i ≡ wordsAt t i
 
 -- a call that is done has moved its page, or every page, and no other; an entry that succeeds moves the page that it names and no other, and one that fails
--- none; after a scan every page's words are as
--- they were or as the look that listed it left them, and those are the words of `listedPage`. Both epochs of a session that passes 40 are below 2 ^ 16, as a
--- record's are; and past its tests a scan's range lies within the table (`dscan-fits`, `dcheck-fits` in `scan`).
+-- none; after a scan every page's words are as they were or as the look that listed it left them, and those are the words of `listedPage`. Both epochs of a
+-- session that passes 40 are below 2 ^ 16, as a record's are; and past its tests a scan's range lies within the table (`dscan-fits`, `dcheck-fits` in
+-- `scan`).
 pub record PagesMove : Type 0 where
   pub one : (m : Move) (s : Session) (t : List ℕ) (at : ℕ) → onPage m s t at .answer .code ≡ 0 →
       pageAt (onPage m s t at .table) at ≡ movedBy m (s .clock) (pageAt t at)

@@ -1,6 +1,5 @@
--- From a pause to the grant the guest's memory is the copy that the pause took: the calls that change it are refused in Blackout and in Done, and only a pause
--- and the
--- token lead there.
+-- From a pause to the grant the guest's memory is the copy that the pause took: the calls that change it are refused in Blackout and in Done, and only a
+-- pause and the token lead there.
 use mathlib.Core.Path.{_≡_, refl, sym, subst}
 use mathlib.Core.Bool.{Bool, true, cond, false≢true}
 use mathlib.Core.List.{List, [], _∷_}

@@ -1,6 +1,5 @@
--- An export: along its run the log grows by exactly the entries that succeed, as the words and the buffer that come back tell them; and how far it came is told
--- by
--- its answer.
+-- An export: along its run the log grows by exactly the entries that succeed, as the words and the buffer that come back tell them; and how far it came is
+-- told by its answer.
 use mathlib.Core.Path.{_≡_, refl, sym, ap, _∙_}
 use mathlib.Core.Bool.{Bool, true, false, _&&_, true≢false}
 use mathlib.Core.List.{List, _++_, append-assoc, append-nil}

@@ -1,6 +1,6 @@
--- The guest's memory, noted from the calls on it, is what the table says of each page, call by call: one that is done makes of the page what is noted of it,
--- one
--- that is refused changes nothing, and the other calls keep what every page holds. With `Copied`, it is the copy of the last pause where the token is granted.
+-- The guest's memory, noted from the calls on it, is what the table says of each page, call by call: one that is done makes of the page what is noted of
+-- it, one that is refused changes nothing, and the other calls keep what every page holds. With `Copied`, it is the copy of the last pause where the token
+-- is granted.
 use mathlib.Core.Path.{_≡_, refl, sym, ap, _∙_}
 use mathlib.Core.Bool.{Bool, true, false, cond, true≢false}
 use mathlib.Core.List.{List, [], _∷_}

@@ -1,6 +1,5 @@
--- Lists and buffers: what a length that passed its test is known to be; and the place of the 42 of one that did not. 40 and 41 are the gate's, and every later
--- code of
--- a scan or an export, whether one of its own tests gives it or its run, is neither.
+-- Lists and buffers: what a length that passed its test is known to be; and the place of the 42 of one that did not. 40 and 41 are the gate's, and every
+-- later code of a scan or an export, whether one of its own tests gives it or its run, is neither.
 use mathlib.Core.Path.{_≡_, refl, sym, ap, _∙_}
 use mathlib.Core.Bool.{Bool, true, false, cond, not}
 use mathlib.Core.List.{List, [], _∷_}

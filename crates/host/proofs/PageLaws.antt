@@ -1,5 +1,5 @@
--- A call on one page comes down to the turn on the page's two words: with code 0 its sixteen bytes are put; every other byte, read and written again, is as it
--- came.
+-- A call on one page comes down to the turn on the page's two words: with code 0 its sixteen bytes are put; every other byte, read and written again, is as
+-- it came.
 use mathlib.Core.Path.{_≡_, refl}
 use mathlib.Core.Bool.{Bool, true, false, cond}
 use mathlib.Core.List.{List, []}

@@ -1,5 +1,5 @@
-// One page, in its two words: what is asked of it, and what the calls make of it. Whoever holds the two words, in whatever form, can make a call's whole work
-// on them.
+// One page, in its two words: what is asked of it, and what the calls make of it. Whoever holds the two words, in whatever form, can make a call's whole
+// work on them.
 //
 // Nothing here takes a page apart into a struct of its own: the state's number is read off the record, and fields of the record's word are set.
 ghost use mathlib.Core.Path.{_≡_};

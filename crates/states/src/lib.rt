@@ -1,8 +1,8 @@
 // What each state of a page allows and where each call takes it, asked of the state's number. The twelve states that the base uses have their places in
 // document 01's lists; any other number is strange, and in none of them.
 //
-// A list is held as a mask, which has a bit for each number: so nothing that is asked of a state is a jump. A new fact is a list, a mask and a line of proof; a
-// new state is its name, and its places in the lists and masks.
+// A list is held as a mask, which has a bit for each number: so nothing that is asked of a state is a jump. A new fact is a list, a mask and a line of
+// proof; a new state is its name, and its places in the lists and masks.
 ghost use mathlib.Core.Path.{_≡_};
 ghost use mathlib.Core.Bool.{cond};
 ghost use Rattle.states.specs.States.{stateOf, isStrange, isIn, numberBy, numberIn};

@@ -1,5 +1,5 @@
-// The table that the caller lends, two words a page, as pages: each can be read, written and looked for, and all of them moved or cleared. Every page number is
-// taken: past the end there are zeros, and nothing is written there.
+// The table that the caller lends, two words a page, as pages: each can be read, written and looked for, and all of them moved or cleared. Every page
+// number is taken: past the end there are zeros, and nothing is written there.
 ghost use mathlib.Core.Path.{_≡_};
 ghost use lib.ListN.{length, replicate};
 ghost use Rattle.page.specs.Page.{onWords, sought};

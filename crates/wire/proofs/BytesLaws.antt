@@ -1,5 +1,5 @@
--- Words and bytes: how many there are of each, what is read at each place, and that reading and writing undo each other. A word's bytes are eight in a row, so
--- most laws go by recursion on the words, eight bytes a step.
+-- Words and bytes: how many there are of each, what is read at each place, and that reading and writing undo each other. A word's bytes are eight in a row,
+-- so most laws go by recursion on the words, eight bytes a step.
 use mathlib.Core.Path.{_≡_, refl, sym, ap, _∙_}
 use mathlib.Core.Logic.{⊎-elim}
 use mathlib.Core.Bool.{Bool, true, false, cond}

@@ -1,5 +1,5 @@
-// The table's bytes as pages: each is read, written and looked for in place, and all of them moved or cleared. A page's sixteen bytes are read and written, and
-// no others. Past the end there are zeros, and nothing is written there.
+// The table's bytes as pages: each is read, written and looked for in place, and all of them moved or cleared. A page's sixteen bytes are read and written,
+// and no others. Past the end there are zeros, and nothing is written there.
 ghost use mathlib.Core.Path.{_≡_};
 ghost use Prim.Native.Nat.{_%_};
 ghost use lib.ListN.{length, replicate};
