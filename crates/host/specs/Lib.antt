@@ -1,3 +1,3 @@
 pub mod Host
-pub mod Inside
 pub mod Promises
+pub mod Inside

@@ -1,3 +1,3 @@
 pub mod BytesLaws
-pub mod Promises
 pub mod SessionLaws
+pub mod Promises
