@@ -104,8 +104,7 @@ module _ (s : Session) (t l b : List ℕ) where
           info = 0;
           errors = 0;
           buffers = 0;
-          session =
-              s';
+          session = s';
         };
         table = t';
         list = l;
@@ -210,8 +209,7 @@ pages-move = record {
   all = sweep-done;
   entry = step-page;
   failed = step-failed;
-  beside =
-      λ g. step-other (exportStep g);
+  beside = λ g. step-other (exportStep g);
   range = range-page;
   look = look-page;
 }

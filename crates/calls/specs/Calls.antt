@@ -38,8 +38,7 @@ tokenNumbers a =
       info = 0;
       errors = 0;
       buffers = 0;
-      session =
-          a .session;
+      session = a .session;
     }
 
 abbrev pub scanNumbers : ScanAnswer → Returned

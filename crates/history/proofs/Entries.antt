@@ -90,8 +90,7 @@ entry-sends g e p v x =
         there = m .there;
         same = m .same (λ n. calm n o);
         seen = o .seen;
-        still =
-            rw (m .blocked) (o .still);
+        still = rw (m .blocked) (o .still);
       };
       older = λ h o. let n : p .migrated ≡ g .epoch → ⊥ = eqb-false (p .migrated) (g .epoch) (t .new) in omega (arith, n, o .young);
       now = refl;

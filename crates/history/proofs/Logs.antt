@@ -77,8 +77,7 @@ told-word w pending operation status a b =
       «l2_map» = lit< tt;
       «mig_type» = f .«mig_type»;
       gpa = f .gpa;
-      operation =
-          a;
+      operation = a;
       reserved54 = f .reserved54;
       status = b;
       reserved61 = f .reserved61;
@@ -106,8 +105,7 @@ module _ (g : Ground) (s : Standing) where
         page = gpaOf s;
         operation = sentAs (page .state);
         pending = isIn (page .state) pendingStates;
-        contents =
-            cond (isIn (page .state) dataStates) (page .mark) 0;
+        contents = cond (isIn (page .state) dataStates) (page .mark) 0;
       }
 
   abbrev pub adds : List Sent

@@ -116,8 +116,7 @@ module _ (k : Moment) (g : among guest (k .phase) ≡ true) (p : Page) where
           young = rw e (o .young);
           there = a .there h (o .there);
           same = a .same (q .dirty) (q .cached) (q .mark) h;
-          seen =
-              s;
+          seen = s;
           still = still-guest (k .phase) g (q .cached) (blocked q);
         };
         kept = e;

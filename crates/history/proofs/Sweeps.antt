@@ -52,8 +52,7 @@ session-step k k' p l q f =
         there = o .there;
         same = o .same;
         seen = rw q (o .seen);
-        still =
-            f (o .still);
+        still = f (o .still);
       };
       kept = refl;
     }

@@ -3,7 +3,7 @@ use mathlib.Core.Path.{_≡_, refl, sym, _∙_}
 use mathlib.Core.Bool.{Bool, true, false}
 use Prim.Native.Nat.{ℕ, zero, suc, _+_, _≤_}
 use native.Mathlib.Omega.{arith}
-use lib.Dec.{leb}
+use lib.Dec.{leb, lit<}
 use lib.ListN.{length, getD, length-set}
 use lib.Seq.{getD-set-other}
 use borrow.Author.Tests.{leb-true, leb-false}
@@ -12,7 +12,7 @@ use Rattle.refusals.proofs.Laws.{either}
 use Rattle.table.specs.Table.{wordsAt}
 use Rattle.lists.specs.Kinds.{Step}
 use Rattle.lists.specs.Run.{Standing, counted, stepped, listRun}
-use Rattle.lists.specs.Promises.{Takes, Same, RunPromises}
+use Rattle.lists.specs.Promises.{Takes, Same, RunPromises, start, Met}
 use Rattle.lists.proofs.Laws.{run-keeps, run-end}
 use Rattle.lists.proofs.Moves.{step-other, step-length}
 
@@ -84,3 +84,14 @@ run-promises =
       cut = run-cut;
       over = λ f last budget more s h. run-cut f last budget more s ∙ run-end f last more (listRun f last budget s) h;
     }
+
+-- ---- the hypotheses, met
+
+names-0 : (i : ℕ) → Takes 1 1 start i → entryOf (getD (start .list) i 0) .gpa ≡ 1 → ⊥
+unfolding entryOf
+names-0 zero t e = omega (arith, e)
+names-0 (suc i) t e = omega (arith, t .1)
+
+pub met : Met
+unfolding listRun stepped counted
+met = record { words = λ t. omega (arith, t .1); page = names-0; over = lit< tt }

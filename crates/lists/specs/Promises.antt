@@ -1,11 +1,13 @@
 -- What holds of a run over a list by any step, and so of every call that takes one.
 use mathlib.Core.Path.{_≡_}
+use mathlib.Core.Bool.{false}
+use mathlib.Core.List.{[], _∷_}
 use Prim.Native.Nat.{ℕ, _+_, _≤_, _<_}
 use lib.ListN.{length, getD}
 use Rattle.words.specs.Entry.{entryOf}
 use Rattle.table.specs.Table.{wordsAt}
 use Rattle.lists.specs.Kinds.{Step}
-use Rattle.lists.specs.Run.{Standing, listRun}
+use Rattle.lists.specs.Run.{Standing, standing, listRun}
 
 -- the entries that are taken: from the next one on, as many as the budget, up to LAST
 abbrev pub Takes : ℕ → ℕ → Standing → ℕ → Type 0
@@ -31,3 +33,18 @@ pub record RunPromises : Type 0 where
   -- when all is done more budget changes nothing
   pub over : (f : Step) (last budget more : ℕ) (s : Standing) → last < listRun f last budget s .at .next →
       listRun f last (budget + more) s ≡ listRun f last budget s
+
+-- ---- each hypothesis above is met: a list of two entries that name page 0, and a step that leaves all as it is
+
+abbrev pub leaving : Step
+leaving word held w = record { status = 0; word = word; buffer = held; words = w; contents = false }
+
+abbrev pub start : Standing
+start = standing (record { next = 0; errors = 0; filled = 0 }) (0 ∷ 0 ∷ []) (0 ∷ 0 ∷ []) []
+
+pub record Met : Type 0 where
+  -- a budget of 1 does not come to the second entry, and no entry names page 1
+  pub words : Takes 1 1 start 1 → ⊥
+  pub page : (i : ℕ) → Takes 1 1 start i → entryOf (getD (start .list) i 0) .gpa ≡ 1 → ⊥
+  -- where the first is the last, a budget of 1 is enough
+  pub over : 0 < listRun leaving 0 1 start .at .next

@@ -52,8 +52,7 @@ stored p mark =
       dirty = p .dirty || (isIn (p .state) writableStates && not (p .cached));
       cached = true;
       stamp = p .stamp;
-      migrated =
-          p .migrated;
+      migrated = p .migrated;
       mark = mark;
     }
 

@@ -38,6 +38,5 @@ met = record {
   streams = refl;
   bytes = zeros-bytes (8 * sessionLength);
   long = refl;
-  fits =
-      refl;
+  fits = refl;
 }

@@ -152,8 +152,7 @@ words-at : (w : List ℕ) (at : ℕ) → fiveOf (drop at w) ≡ record {
   flag = getD w at 0;
   next = getD w (at + 1) 0;
   last = getD w (at + 2) 0;
-  errors =
-      getD w (at + 3) 0;
+  errors = getD w (at + 3) 0;
   filled = getD w (at + 4) 0;
 }
 words-at w at = rw (getD-drop at w 0 0, getD-drop at w 1 0, getD-drop at w 2 0, getD-drop at w 3 0, getD-drop at w 4 0, add-zero at)

@@ -65,8 +65,7 @@ addressed i =
       gpa = i;
       operation = 0;
       reserved54 = 0;
-      status =
-          0;
+      status = 0;
       reserved61 = 0;
     }
 

@@ -45,8 +45,7 @@ returns c =
       dirty = false;
       cached = p .cached;
       stamp = c .before .before .before .before .before .args .clock .tlb;
-      migrated =
-          p .migrated;
+      migrated = p .migrated;
       mark = p .mark;
     }) (search needs) e
     (c .set-stamp .ensures ∙ ap (λ (r : Record). withStamp r stamp) (c .before .set-dirty .ensures
