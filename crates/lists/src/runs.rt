@@ -29,7 +29,7 @@ fn count_if(n: u64, flag: bool) -> u64
 }
 
 // One entry more; a skipped one is no error.
-fn count(at: Progress, got: Taken) -> Progress
+pub fn count(at: Progress, got: Taken) -> Progress
     requires { ⌜ (at .next ≤ lastEntry) × (at .errors ≤ at .next) × (at .filled ≤ at .next) ⌝ }
     ensures { λ r. ⌜ r ≡ counted at got ⌝ }
 {

@@ -49,7 +49,7 @@ pub struct ScanAnswer {
 // ---- the run
 
 // Why a scan does not visit the page that it stands at, with `i` pages passed and `put` words written; 0 if it does.
-fn stop_code(scan: Scan, blocked: bool, listed: bool, i: usize, put: usize, room: usize) -> u64
+pub fn stop_code(scan: Scan, blocked: bool, listed: bool, i: usize, put: usize, room: usize) -> u64
     ensures { λ r. ⌜ r ≡ stopCode scan blocked listed i put room ⌝ }
 {
     let spent = scan.budget <= i;
@@ -68,7 +68,7 @@ fn stop_code(scan: Scan, blocked: bool, listed: bool, i: usize, put: usize, room
 }
 
 // The code past the last page.
-fn end_code(checking: bool) -> u64
+pub fn end_code(checking: bool) -> u64
     ensures { λ r. ⌜ r ≡ endCode checking ⌝ }
 {
     if checking {

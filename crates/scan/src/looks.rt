@@ -11,7 +11,8 @@ use words::entries;
 use words::entries::Entry;
 use words::operations;
 
-pub(crate) fn is_listed(w: PageWords) -> bool
+// The page is to be exported, or exported again.
+pub fn is_listed(w: PageWords) -> bool
     ensures { λ r. ⌜ r ≡ listed (pageOf w) ⌝ }
 {
     let n = page::state_of(w);
@@ -20,7 +21,7 @@ pub(crate) fn is_listed(w: PageWords) -> bool
 }
 
 // Its word in the list.
-pub(crate) fn listed_word(w: PageWords, number: usize) -> u64
+pub fn listed_word(w: PageWords, number: usize) -> u64
     ensures { λ r. ⌜ r ≡ listedWord (pageOf w .state) number ⌝ }
 {
     let n = page::state_of(w);
@@ -57,7 +58,8 @@ fn list(w: PageWords, to: u8, clock: Clock) -> PageWords
     }
 }
 
-pub(crate) fn listed_words(w: PageWords, clock: Clock) -> PageWords
+// What becomes of the page's own words; a strange record stays.
+pub fn listed_words(w: PageWords, clock: Clock) -> PageWords
     ensures { λ r. ⌜ r ≡ onWords (listedPage clock) w ⌝ }
 {
     let n = page::state_of(w);

@@ -1,5 +1,5 @@
--- Words and bytes: how many there are of each, what is read at each place, and that reading and writing undo each other. A word's bytes are eight in a row,
--- so most laws go by recursion on the words, eight bytes a step.
+-- Words and bytes: how many there are of each, what is read at each place, that reading and writing undo each other, and that a word, a page or a part is
+-- put among bytes as among words. A word's bytes are eight in a row, so most laws go by recursion on the words, eight bytes a step.
 use mathlib.Core.Path.{_≡_, refl, sym, ap, _∙_}
 use mathlib.Core.Logic.{⊎-elim}
 use mathlib.Core.Bool.{Bool, true, false, cond}
@@ -222,3 +222,48 @@ page-count b = rw (words-length b) (omega arith)
 pub zero-bytes : (n : ℕ) → bytesOf (replicate n 0) ≡ replicate (8 * n) 0
 zero-bytes zero = refl
 zero-bytes (suc n) = rw (eight-more n) (ap (λ (r : List ℕ). wordBytes 0 ++ r) (zero-bytes n))
+
+-- ---- one word among others, and a part of the words
+
+pub words-put-word : (b : List ℕ) (i x : ℕ) → Bytes b → length b % 8 ≡ 0 → i < length b / 8 → x < 0x10000000000000000 →
+    wordsOf (putWord b (8 * i) x) ≡ set (wordsOf b) i x
+words-put-word b i x y h l k =
+    let inside : i < length (wordsOf b) = rw (words-length b) l in
+    ap (λ (r : List ℕ). wordsOf (putWord r (8 * i) x)) (sym (bytes-back b y h)) ∙ ap wordsOf (put-bytes (wordsOf b) i x inside)
+    ∙ words-back (set (wordsOf b) i x) (words-set (wordsOf b) i x (words-small b y) k)
+
+bytes-take : (w : List ℕ) (n : ℕ) → take (8 * n) (bytesOf w) ≡ bytesOf (take n w)
+bytes-take w zero = refl
+bytes-take [] (suc n) = rw (eight-more n)
+bytes-take (x ∷ l) (suc n) = rw (eight-more n) (ap (λ (r : List ℕ). wordBytes x ++ r) (bytes-take l n))
+
+bytes-drop : (w : List ℕ) (n : ℕ) → drop (8 * n) (bytesOf w) ≡ bytesOf (drop n w)
+bytes-drop w zero = refl
+bytes-drop [] (suc n) = rw (eight-more n)
+bytes-drop (x ∷ l) (suc n) = rw (eight-more n) (bytes-drop l n)
+
+words-take : (v : List ℕ) (n : ℕ) → Words v → Words (take n v)
+words-take v zero h i = omega arith
+words-take [] (suc n) h i = h i
+words-take (x ∷ l) (suc n) h zero = h 0
+words-take (x ∷ l) (suc n) h (suc i) = words-take l n (λ j. h (suc j)) i
+
+module _ (b : List ℕ) (from n : ℕ) (y : Bytes b) (h : length b % 8 ≡ 0) where
+  abbrev rest : List ℕ
+  rest = drop from (wordsOf b)
+
+  rest-bytes : drop (8 * from) b ≡ bytesOf rest
+  rest-bytes = ap (drop (8 * from)) (sym (bytes-back b y h)) ∙ bytes-drop (wordsOf b) from
+
+  -- the words of a part of the bytes are the part of the words
+  pub words-part : wordsOf (take (8 * n) (drop (8 * from) b)) ≡ take n (drop from (wordsOf b))
+  words-part =
+      let small : Words rest = λ i. rw (getD-drop from (wordsOf b) i 0) (words-small b y (from + i)) in
+      rw (rest-bytes, bytes-take rest n) (words-back (take n rest) (words-take rest n small))
+
+  -- and where other words stand there, their bytes do
+  pub bytes-part : (p : List ℕ) →
+      take (8 * from) b ++ (bytesOf p ++ drop (8 * n) (drop (8 * from) b)) ≡ bytesOf (take from (wordsOf b) ++ (p ++ drop n (drop from (wordsOf b))))
+  bytes-part p =
+      let first : take (8 * from) b ≡ bytesOf (take from (wordsOf b)) = ap (take (8 * from)) (sym (bytes-back b y h)) ∙ bytes-take (wordsOf b) from in
+      rw (first, rest-bytes, bytes-drop rest n, bytes-append (take from (wordsOf b)) (p ++ drop n rest), bytes-append p (drop n rest))
