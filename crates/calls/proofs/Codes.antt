@@ -1,6 +1,6 @@
--- Every code is one of a list of tests, or one that a scan or an export which ran gives, and all of these are document 01's.
+-- Every code is one of a list of tests, or one that a scan or an export which ran gives, and all of these are document 01's. The first of the tests is 40.
 use mathlib.Core.Path.{_≡_, refl, ap, _∙_}
-use mathlib.Core.Bool.{true, not, or-true}
+use mathlib.Core.Bool.{true, false, not, or-true, true≢false}
 use mathlib.Core.List.{List, [], _∷_}
 use Prim.Native.Nat.{ℕ, _-_}
 use lib.ListN.{length, replicate}
@@ -14,7 +14,7 @@ use Rattle.page.proofs.MoveLaws.{move-refuses}
 use Rattle.page.specs.declared.sweeps.Sweep.{Sweep}
 use Rattle.table.specs.Table.{legal, pageCount, pageAt}
 use Rattle.session.specs.Session.{moving, phasesOf, newSession}
-use Rattle.session.specs.Formed.{within, fewestCreated, mostCreated, gateTests, gated}
+use Rattle.session.specs.Formed.{within, fewestCreated, mostCreated, formed, gateTests, gated}
 use Rattle.session.specs.Outcome.{Outcome, answered}
 use Rattle.session.proofs.Laws.{answered-either}
 use Rattle.session.specs.declared.Session.{Session}
@@ -26,12 +26,12 @@ use Rattle.migration.specs.Migration.{sweepWhen, sweepTests, sweepCode, onAll, 
 use Rattle.migration.specs.declared.Alone.{Alone}
 use Rattle.migration.specs.Token.{tokenTests, tokenCode, tokenOut}
 use Rattle.migration.proofs.Laws.{token-number, sweep-refuses, alone-refuses}
-use Rattle.scan.specs.Scan.{ScanOutcome, dscanTests, dscanCode, dscanOf, dcheckTests, dcheckCode, dcheckOf, checkedBy}
+use Rattle.scan.specs.Scan.{ScanOutcome, dscanTests, dscanCode, dscanOf, dscanOut, dcheckTests, dcheckCode, dcheckOf, checkedBy, dcheckOut}
 use Rattle.scan.proofs.Outcomes.{OfScans, range-code, dscan-either, dchecked, dcheck-either}
-use Rattle.export.specs.Export.{exportTests, exportCode, ExportOutcome}
+use Rattle.export.specs.Export.{exportTests, exportCode, ExportOutcome, exportOut}
 use Rattle.export.proofs.Moves.{exported, export-either, finished-code}
 use Rattle.calls.specs.Calls.{effectOf}
-use Rattle.calls.specs.Promises.{named, AnswersNamed}
+use Rattle.calls.specs.Promises.{named, AnswersNamed, isNew}
 use Rattle.calls.specs.declared.Call.{Call}
 use Rattle.calls.specs.declared.Call.the-variants.{New, OnPage, OnAll, OnSession, StartToken, Dscan, Dcheck, Export}
 
@@ -95,3 +95,23 @@ module _ (s : Session) (t l b : List ℕ) where
 
 pub answers-named : AnswersNamed
 answers-named = record { code = λ c s t l b. code-named s t l b c }
+
+-- 40 comes first in every call that reads its session
+module _ (s : Session) (t l b : List ℕ) (f : formed s (length t) ≡ false) where
+  gated-first : (phases : List Phase) (tests : List Test) → gated s (length t) phases tests ≡ codes.malformed
+  unfolding gated
+  gated-first phases tests = rw f
+
+  answered-first : (code : ℕ) (s' : Session) (t' : List ℕ) → code ≡ codes.malformed → answered code s t s' t' .answer .code ≡ codes.malformed
+  answered-first code s' t' e = answered-either (λ (o : Outcome). o .answer .code ≡ codes.malformed) code s t s' t' (λ q. e) (λ q. e)
+
+  pub unformed-code : (c : Call) → isNew c ≡ false → effectOf c s t l b .returned .code ≡ codes.malformed
+  unfolding onAll sweepCode onSession aloneCode tokenOut tokenCode dscanOut dscanCode dcheckOut dcheckCode exportOut exportCode
+  unformed-code (New created) e = absurd (true≢false e)
+  unformed-code (OnPage page m) e = page-code m s t page ∙ rw f
+  unformed-code (OnAll k) e = answered-first _ _ _ (gated-first (phasesOf (sweepWhen k)) _)
+  unformed-code (OnSession k) e = answered-first _ _ t (gated-first (phasesOf (aloneWhen k)) (aloneTests k s))
+  unformed-code StartToken e = token-number (tokenCode s t) t ∙ gated-first (phase.Blackout ∷ []) (tokenTests s t)
+  unformed-code (Dscan first count budget) e = rw (gated-first (phase.Live ∷ []) (dscanTests s (length l) first count))
+  unformed-code (Dcheck budget) e = rw (gated-first (phase.Blackout ∷ []) (dcheckTests s (length l)))
+  unformed-code (Export stream resume info budget) e = rw (gated-first moving (exportTests s (length l) (length b) stream resume (infoOf info)))

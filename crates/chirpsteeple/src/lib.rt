@@ -4,15 +4,15 @@ ghost use Rattle.host.specs.Host.{Left};
 ghost use Rattle.chirpsteeple.specs.Functions.{newLeft, writeLeft, addLeft, acceptLeft, blockLeft, unblockLeft, removeLeft};
 ghost use Rattle.chirpsteeple.specs.Functions.{trackLeft, startLeft, pauseLeft, abortLeft, newEpochLeft, resetLeft};
 ghost use Rattle.chirpsteeple.specs.Functions.{tokenLeft, dscanLeft, dcheckLeft, exportLeft, tokenToC, scanToC, exportToC};
-use calls::Call;
 use host::answers::Numbers;
 use host::pages;
 use host::sweeps;
 use host::tables;
+use host_lists::exports;
+use host_lists::scans;
 use migration::Alone;
 use page::moves::Move;
 use page::sweeps::Sweep;
-use session::When;
 
 // What the start token answers; the page is that in the way of 53 and 54.
 #[repr(C)]
@@ -186,7 +186,7 @@ fn scan_answer(n: Numbers) -> ChirpScanAnswer
 
 #[no_mangle]
 pub extern "C" fn chirp_dscan(
-    session: &mut [u8],
+    session: &[u8],
     table: &mut [u8],
     first: u64,
     count: u64,
@@ -198,12 +198,14 @@ pub extern "C" fn chirp_dscan(
     ensures { λ _. ⌜ now (table .exit) ≡ dscanLeft (now (session .entry)) (now (table .entry)) first count (now (list .entry)) budget .table ⌝ }
     ensures { λ _. ⌜ now (list .exit) ≡ dscanLeft (now (session .entry)) (now (table .entry)) first count (now (list .entry)) budget .list ⌝ }
 {
-    let call = Call::Dscan {
-        first: first as usize,
-        count: count as usize,
-        budget: budget as usize,
-    };
-    scan_answer(host_lists::with_list(When::Live, call, session, table, list))
+    scan_answer(scans::dscan(
+        session,
+        table,
+        list,
+        first as usize,
+        count as usize,
+        budget as usize,
+    ))
 }
 
 #[no_mangle]
@@ -218,10 +220,7 @@ pub extern "C" fn chirp_dcheck(
     ensures { λ _. ⌜ now (table .exit) ≡ dcheckLeft (now (session .entry)) (now (table .entry)) (now (list .entry)) budget .table ⌝ }
     ensures { λ _. ⌜ now (list .exit) ≡ dcheckLeft (now (session .entry)) (now (table .entry)) (now (list .entry)) budget .list ⌝ }
 {
-    let call = Call::Dcheck {
-        budget: budget as usize,
-    };
-    scan_answer(host_lists::with_list(When::Blackout, call, session, table, list))
+    scan_answer(scans::dcheck(session, table, list, budget as usize))
 }
 
 #[no_mangle]
@@ -246,13 +245,7 @@ pub extern "C" fn chirp_export(
     ensures { λ _. ⌜ now (buffer .exit) ≡ exportLeft (now (session .entry)) (now (table .entry)) (now (list .entry))
         (now (buffer .entry)) stream resume info budget .buffer ⌝ }
 {
-    let call = Call::Export {
-        stream,
-        resume: resume == 1,
-        info,
-        budget,
-    };
-    let n = host_lists::with_lists(When::Moving, call, session, table, list, buffer, resume);
+    let n = exports::export(session, table, list, buffer, stream, resume, info, budget);
     ChirpExportAnswer {
         code: n.code,
         info: n.info,

@@ -1,6 +1,7 @@
 -- What is known past an export's tests: the list is one, its entries that are left are ordered, and no count passes the next index.
 use mathlib.Core.Path.{_≡_, refl}
-use mathlib.Core.Bool.{Bool, true, false, not, _&&_, true≢false}
+use mathlib.Core.Bool.{Bool, true, false, cond, not, _&&_, true≢false}
+use mathlib.Core.List.{[]}
 use lib.Dec.{eqb, leb}
 use Prim.Native.Nat.{ℕ, _+_, _≤_, _<_}
 use native.Mathlib.Omega.{arith}
@@ -8,15 +9,18 @@ use lib.ListN.{getD}
 use borrow.Author.Tests.{lt-ltb, ltb-true, eqb-true}
 use Rattle.refusals.proofs.Laws.{either, and-right, not-false}
 use Rattle.session.specs.Session.{among, moving, resting, streamPlaces, workOf}
-use Rattle.session.specs.Formed.{usable, lastEntry}
+use Rattle.session.specs.Formed.{usable, lastEntry, gated, behind}
 use Rattle.session.specs.declared.Session.{Session}
 use Rattle.session.specs.declared.streams.Work.{Work}
 use Rattle.session.specs.declared.streams.Work.the-variants.{AtRest, Interrupted}
-use Rattle.session.proofs.Laws.{gate-open}
+use Rattle.session.proofs.Laws.{gate-first, gate-open}
 use Rattle.session.proofs.FormedLaws.{WorkFormed, formed-means}
 use Rattle.words.specs.declared.infos.Info.{Info}
+use Rattle.lists.specs.List.{isOver}
+use Rattle.lists.specs.declared.runs.Progress.{Progress}
 use Rattle.lists.proofs.Laws.{Counts, list-passed}
-use Rattle.export.specs.Export.{macPages, noResumption, noNewCall, exportTests, exportCode, begunBy}
+use Rattle.export.specs.Export.{noResumption, noNewCall, exportTests, exportCode, begunBy, macPages}
+use Rattle.export.specs.Export.{doneEnd, interruptedEnd, endedBy, ending, doneBy, interruptedBy, finishedBy}
 
 -- ---- numbers that fit
 
@@ -30,6 +34,21 @@ macs-few n last e = rw e (either (λ (k : ℕ). k ≤ 2) (leb 256 last) (λ q. o
 resumed : (resume r : Bool) → (resume && not r) ≡ false → (not resume && true) ≡ false → r ≡ true
 resumed true r a b = not-false r a
 resumed false r a b = absurd (true≢false b)
+
+-- the code, told that of the gate
+pub export-told : (s : Session) (len entries room stream : ℕ) (resume : Bool) (x : Info) (gate : ℕ) → gate ≡ gated s len moving [] →
+    behind gate (exportTests s entries room stream resume x) ≡ exportCode s len entries room stream resume x
+unfolding exportCode
+export-told s len entries room stream resume x gate e = rw (e, ← gate-first s len moving (exportTests s entries room stream resume x))
+
+-- the answer is how the call ends, with the session in which its stream does that
+pub finished-ended : (s : Session) (stream : ℕ) (x : Info) (at : Progress) → ending s stream (endedBy x at) ≡ finishedBy s stream x at
+unfolding endedBy finishedBy
+finished-ended s stream x at = go (isOver x (at .next))
+  where
+    go : (b : Bool) → ending s stream (cond b (doneEnd x at) (interruptedEnd x at)) ≡ cond b (doneBy s stream x at) (interruptedBy s stream x at)
+    go true = refl
+    go false = refl
 
 pub record Ready (entries room : ℕ) (run : Work) (x : Info) : Type 0 where
   pub within : x .last < entries

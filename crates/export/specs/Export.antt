@@ -9,7 +9,7 @@ use Rattle.words.specs.Info.{infoOf}
 use Rattle.words.specs.declared.infos.Info.{Info}
 use Rattle.refusals.specs.Refusals.{Test, _gives_}
 use Rattle.session.specs.Session.{moving, workOf, withWork}
-use Rattle.session.specs.Formed.{gated, usable, workResting}
+use Rattle.session.specs.Formed.{gated, usableOf, workResting}
 use Rattle.session.specs.declared.Session.{Session}
 use Rattle.session.specs.declared.streams.Work.{Work}
 use Rattle.session.specs.declared.streams.Work.the-variants.{AtRest, Interrupted}
@@ -20,6 +20,7 @@ use Rattle.lists.specs.Run.{Standing, standing, listRun}
 use Rattle.lists.specs.List.{listTests, isOver, infoBack}
 use Rattle.lists.specs.declared.Kind.the-variants.{Export}
 use Rattle.lists.specs.declared.runs.Progress.{Progress}
+use Rattle.export.specs.declared.Ended.{Ended}
 use Rattle.export.specs.declared.ExportAnswer.{ExportAnswer}
 
 -- ---- the tests, each by its name
@@ -42,15 +43,18 @@ abbrev pub notFrom0 : Bool → Info → Bool
 notFrom0 resume x = not resume && not (eqb (x .first) 0)
 
 -- 42, of which it cannot be seen which test comes first; 44; then 42
-abbrev pub exportTests : Session → ℕ → ℕ → ℕ → Bool → Info → List Test
-exportTests s entries room stream resume x =
-    not (usable s stream) gives codes.operandInvalid
+abbrev pub exportAsks : ℕ → Work → ℕ → ℕ → ℕ → Bool → Info → List Test
+exportAsks created work entries room stream resume x =
+    not (usableOf created stream) gives codes.operandInvalid
     ∷ otherBuffer entries room gives codes.operandInvalid
     ∷ (listTests entries x
-    ++ noResumption resume (workOf s stream) x gives codes.invalidResumption
-    ∷ noNewCall resume (workOf s stream) gives codes.invalidResumption
+    ++ noResumption resume work x gives codes.invalidResumption
+    ∷ noNewCall resume work gives codes.invalidResumption
     ∷ notFrom0 resume x gives codes.operandInvalid
     ∷ [])
+
+abbrev pub exportTests : Session → ℕ → ℕ → ℕ → Bool → Info → List Test
+exportTests s entries room stream resume x = exportAsks (s .fixed .created) (workOf s stream) entries room stream resume x
 
 unfoldable pub exportCode : Session → ℕ → ℕ → ℕ → ℕ → Bool → Info → ℕ
 exportCode s len entries room stream resume x = gated s len moving (exportTests s entries room stream resume x)
@@ -71,26 +75,33 @@ unfoldable pub macPages : ℕ → ℕ
 macPages last = cond (leb 256 last) 2 1
 
 -- at the end the errors of the whole operation, 1 buffer for the list, those for MACs and the data pages; the stream at rest
-abbrev pub doneBy : Session → ℕ → Info → Progress → ExportAnswer
-doneBy s stream x at =
-    record {
-      code = codes.done;
-      info = infoBack x (at .next);
-      errors = at .errors;
-      buffers = 1 + macPages (x .last) + at .filled;
-      session = withWork s stream AtRest;
-    }
+abbrev pub doneEnd : Info → Progress → Ended
+doneEnd x at =
+    record { code = codes.done; info = infoBack x (at .next); errors = at .errors; buffers = 1 + macPages (x .last) + at .filled; work = AtRest }
 
 -- before it both counts 0; the stream interrupted
-abbrev pub interruptedBy : Session → ℕ → Info → Progress → ExportAnswer
-interruptedBy s stream x at =
+abbrev pub interruptedEnd : Info → Progress → Ended
+interruptedEnd x at =
     record {
       code = codes.interrupted;
       info = infoBack x (at .next);
       errors = 0;
       buffers = 0;
-      session = withWork s stream (Interrupted (at .next) (x .last) (at .errors) (at .filled));
+      work = Interrupted (at .next) (x .last) (at .errors) (at .filled);
     }
+
+unfoldable pub endedBy : Info → Progress → Ended
+endedBy x at = cond (isOver x (at .next)) (doneEnd x at) (interruptedEnd x at)
+
+-- the answer, with the session in which the stream does that
+abbrev pub ending : Session → ℕ → Ended → ExportAnswer
+ending s stream e = record { code = e .code; info = e .info; errors = e .errors; buffers = e .buffers; session = withWork s stream (e .work) }
+
+abbrev pub doneBy : Session → ℕ → Info → Progress → ExportAnswer
+doneBy s stream x at = ending s stream (doneEnd x at)
+
+abbrev pub interruptedBy : Session → ℕ → Info → Progress → ExportAnswer
+interruptedBy s stream x at = ending s stream (interruptedEnd x at)
 
 -- all done is tested before the budget
 unfoldable pub finishedBy : Session → ℕ → Info → Progress → ExportAnswer

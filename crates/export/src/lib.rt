@@ -1,13 +1,15 @@
 // Export of a list: on a stream that remembers where it was interrupted, with its counts.
 ghost use mathlib.Core.Path.{_≡_};
 ghost use Prim.Native.Nat.{_+_, _≤_};
-ghost use Rattle.session.specs.Formed.{lastEntry};
-ghost use Rattle.export.specs.Export.{resumable, exportCode, begunBy, macPages, finishedBy, exportOut};
+ghost use Rattle.session.specs.Formed.{behind, lastEntry};
+ghost use Rattle.export.specs.Export.{resumable, exportAsks, begunBy, macPages, endedBy, exportOut};
 use lists::Kind;
 use lists::runs;
 use lists::runs::Progress;
 use session::Session;
 use session::When;
+use session::changes;
+use session::changes::Change;
 use session::streams;
 use session::streams::Work;
 use words::codes;
@@ -38,22 +40,22 @@ fn is_resumable(work: Work, x: Info) -> bool
     }
 }
 
-fn export_code(
-    s: Session,
-    len: usize,
+// `gate` is the code of what stands before, and `work` what the stream is doing.
+pub fn export_code(
+    gate: u64,
+    created: u64,
+    work: Work,
     entries: usize,
     room: usize,
     stream: u64,
     resume: bool,
     x: Info,
 ) -> u64
-    ensures { λ r. ⌜ r ≡ exportCode s len entries room stream resume x ⌝ }
+    ensures { λ r. ⌜ r ≡ behind gate (exportAsks created work entries room stream resume x) ⌝ }
 {
-    let work = streams::work_of(s, stream);
-    let usable = streams::is_usable(s, stream);
+    let usable = streams::is_usable(created, stream);
     let resumable = is_resumable(work, x);
     let resting = streams::is_resting(work);
-    let gate = session::gate(s, len, When::Moving);
     let listed = lists::list_code(entries, x);
     let other_buffer = room != entries;
     let no_list = listed != codes::DONE;
@@ -85,7 +87,7 @@ fn export_code(
 }
 
 // Where a call on the stream goes on.
-fn begin(work: Work) -> Progress
+pub fn begin(work: Work) -> Progress
     ensures { λ r. ⌜ r ≡ begunBy work ⌝ }
 {
     match work {
@@ -116,36 +118,42 @@ fn mac_pages(last: u64) -> u64
     if ENTRIES_A_MAC_PAGE <= last { 2 } else { 1 }
 }
 
-fn finish(s: Session, stream: u64, x: Info, at: Progress) -> ExportAnswer
+// How a call ends: its numbers, and what its stream does then.
+pub struct Ended {
+    pub code: u64,
+    pub info: u64,
+    pub errors: u64,
+    pub buffers: u64,
+    pub work: Work,
+}
+
+pub fn end(x: Info, at: Progress) -> Ended
     requires { ⌜ (x .last ≤ lastEntry) × (at .next ≤ x .last + 1) × (at .filled ≤ at .next) ⌝ }
-    ensures { λ r. ⌜ r ≡ finishedBy s stream x at ⌝ }
+    ensures { λ r. ⌜ r ≡ endedBy x at ⌝ }
 {
     let last = x.last;
     let info = lists::info_back(x, at.next);
     if lists::is_over(x, at.next) {
         let macs = mac_pages(last);
-        let session = streams::with_work(s, stream, Work::AtRest);
-        return ExportAnswer {
+        return Ended {
             code: codes::DONE,
             info,
             errors: at.errors,
             buffers: 1 + macs + at.filled,
-            session,
+            work: Work::AtRest,
         };
     }
-    let work = Work::Interrupted {
-        next: at.next,
-        last,
-        errors: at.errors,
-        filled: at.filled,
-    };
-    let session = streams::with_work(s, stream, work);
-    ExportAnswer {
+    Ended {
         code: codes::INTERRUPTED,
         info,
         errors: 0, // told at the end
         buffers: 0,
-        session,
+        work: Work::Interrupted {
+            next: at.next,
+            last,
+            errors: at.errors,
+            filled: at.filled,
+        },
     }
 }
 
@@ -166,7 +174,18 @@ pub fn export(
     ensures { λ _. ⌜ now (buffer .exit) ≡ exportOut s (now (table .entry)) (now (list .entry)) (now (buffer .entry)) stream resume info budget .buffer ⌝ }
 {
     let x = infos::info_of(info);
-    let code = export_code(s, table.len(), list.len(), buffer.len(), stream, resume, x);
+    let gate = session::gate(s, table.len(), When::Moving);
+    let work = streams::work_of(s, stream);
+    let code = export_code(
+        gate,
+        s.fixed.created,
+        work,
+        list.len(),
+        buffer.len(),
+        stream,
+        resume,
+        x,
+    );
     if code != codes::DONE {
         return ExportAnswer {
             code,
@@ -177,8 +196,22 @@ pub fn export(
         };
     }
     let g = entry::ground_of(s);
-    let work = streams::work_of(s, stream);
     let from = begin(work);
     let at = runs::run_entries(table, list, buffer, from, x.last, budget, Kind::Export, g);
-    finish(s, stream, x, at)
+    let ended = end(x, at);
+    let after = ended.work;
+    let session = changes::changed(
+        s,
+        Change::ToWork {
+            stream,
+            work: after,
+        },
+    );
+    ExportAnswer {
+        code: ended.code,
+        info: ended.info,
+        errors: ended.errors,
+        buffers: ended.buffers,
+        session,
+    }
 }

@@ -21,8 +21,9 @@ use Rattle.session.specs.declared.Session.{Session}
 use Rattle.session.proofs.Laws.{gate-open, open-gate}
 use Rattle.session.proofs.FormedLaws.{formed-means, tlb-fits}
 use Rattle.migration.specs.Grant.{Ready}
-use Rattle.scan.specs.Scan.{ScanOut, answerOf, checkedBy, ScanOutcome, ranScan, refusedScan, dcheckTests, dcheckCode, dcheckOf, dcheckOut}
+use Rattle.scan.specs.Scan.{ScanOut, writtenOf, answerOf, checkedBy, ScanOutcome, ranScan, refusedScan, dcheckTests, dcheckCode, dcheckOf, dcheckOut}
 use Rattle.scan.specs.declared.ScanAnswer.{ScanAnswer}
+use Rattle.scan.specs.declared.Written.{Written}
 use Rattle.scan.proofs.Laws.{dcheck-fits}
 use Rattle.scan.proofs.Outcomes.{answer-session, answer-code, dchecked, dcheck-either}
 use Rattle.calls.specs.Calls.{scanEffect}
@@ -60,11 +61,11 @@ named-listed (w ∷ l) i x = (w ∷ l, List·Memᴰ·head refl, x)
 -- a DCHECK that ran gives the words that it wrote
 ran-entries : (s : Session) (o : ScanOut) → within codes.interrupted codes.checkComplete (o .scanned .code) ≡ true →
     entriesOf (scanEffect (ranScan s o) []) ≡ take (o .scanned .put) (o .list)
-unfolding answerOf
+unfolding answerOf writtenOf
 ran-entries s o e =
     either
-    (λ (a : ScanAnswer). cond (within codes.interrupted codes.checkComplete (a .code)) (take (suc (a .last) - a .first) (drop (a .first) (o .list))) [] ≡ take
-    (o .scanned .put) (o .list))
+    (λ (w : Written). cond (within codes.interrupted codes.checkComplete (o .scanned .code)) (take (suc (w .last) - w .first) (drop (w .first) (o .list))) [] ≡
+    take (o .scanned .put) (o .list))
     (eqb (o .scanned .put) 0)
     (λ z. rw (e, eqb-true (o .scanned .put) 0 z))
     (λ z.

@@ -23,7 +23,8 @@ use Rattle.memory.specs.Memory.{newCode, newOut, onPage}
 use Rattle.migration.specs.Migration.{sweepCode, onAll, aloneCode, onSession}
 use Rattle.migration.specs.Token.{tokenCode, inTheWay, tokenFor, tokenOut}
 use Rattle.scan.specs.Look.{listed, listedWord, renewed, lookOf}
-use Rattle.scan.specs.Scan.{stopCode, endCode, scanRun, rangeRun, answerOf, checkedBy, withinTable, dscanCode, dscanOut, dcheckCode, dcheckOut}
+use Rattle.scan.specs.Scan.{stopCode, endCode, scanRun, rangeRun, writtenOf, answerOf, checkedBy, withinTable}
+use Rattle.scan.specs.Scan.{dscanCode, dscanOut, dcheckCode, dcheckOut}
 use Rattle.entry.specs.Entry.{groundOf, invalid, unexportable, statusOf, answerWord, sentEntry, failedEntry, takenOf}
 use Rattle.lists.specs.Run.{counted, stepped, listRun}
 use Rattle.lists.specs.List.{infoBack}
@@ -58,9 +59,9 @@ rising-means (x ∷ l) e = (from-means (x .epoch) l (and-left (from (x .epoch) l
 pub met : Met
 unfolding recordOf recordWord plain entryOf entryWord infoOf infoWord stateOf isStrange isIn hasMove goesBy numberIn pageOf onWords tracked gives53 gives54
     writable keptStamp legal wordsAt putAt some workOf withWork busy formed gated answered newCode newOut onPage sweepCode onAll aloneCode onSession tokenCode
-    inTheWay tokenFor tokenOut listed listedWord renewed lookOf stopCode endCode scanRun rangeRun answerOf checkedBy withinTable dscanCode dscanOut dcheckCode
-    dcheckOut invalid unexportable statusOf answerWord sentEntry failedEntry takenOf counted stepped exportCode groundOf macPages finishedBy exportOut listRun
-    infoBack
+    inTheWay tokenFor tokenOut listed listedWord renewed lookOf stopCode endCode scanRun rangeRun writtenOf answerOf checkedBy withinTable dscanCode dscanOut
+    dcheckCode dcheckOut invalid unexportable statusOf answerWord sentEntry failedEntry takenOf counted stepped exportCode groundOf macPages finishedBy exportOut
+    listRun infoBack
 met =
     record {
       new = refl;

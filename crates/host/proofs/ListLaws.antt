@@ -1,20 +1,18 @@
--- Lists and buffers: what a length that passed its test is known to be; and the place of the 42 of one that did not. 40 and 41 are the gate's, and every
--- later code of a scan or an export, whether one of its own tests gives it or its run, is neither.
+-- Lists and buffers: one that passed its test is in whole words; and the place of the 42 of one that did not. 40 and 41 are the gate's, and every later code
+-- of a scan or an export, whether one of its own tests gives it or its run, is neither.
 use mathlib.Core.Path.{_≡_, refl, sym, ap, _∙_}
 use mathlib.Core.Bool.{Bool, true, false, cond, not}
 use mathlib.Core.List.{List, [], _∷_}
-use Prim.Native.Nat.{ℕ, _-_, _*_, _/_, _%_, _≤_}
-use native.Mathlib.Omega.{arith}
+use Prim.Native.Nat.{ℕ, _-_, _*_, _/_, _%_}
 use lib.Dec.{eqb, leb}
-use lib.ListN.{length, take}
-use lib.Seq.{length-take-le}
-use borrow.Author.Tests.{eqb-true, leb-true}
+use lib.ListN.{length}
+use borrow.Author.Tests.{eqb-true}
 use Rattle.words.specs.Codes as codes
 use Rattle.words.specs.Info.{infoOf}
 use Rattle.refusals.specs.Refusals.{Test, firstOf}
-use Rattle.refusals.proofs.Laws.{either, and-left, and-right, allCodes, first-all}
+use Rattle.refusals.proofs.Laws.{either, and-left, allCodes, first-all}
 use Rattle.session.specs.Session.{among, moving}
-use Rattle.session.specs.Formed.{formed, gated}
+use Rattle.session.specs.Formed.{mostEntries, formed, gated}
 use Rattle.session.specs.declared.Phase.{Phase}
 use Rattle.session.specs.declared.Phase.the-variants.{Live, Blackout}
 use Rattle.session.specs.declared.Session.{Session}
@@ -32,23 +30,8 @@ use Rattle.host.specs.Promises.{firstGroup}
 use Rattle.host.specs.Inside.{before42, ComesIn}
 use Rattle.host.proofs.LayoutLaws.{host-first, engine-read}
 
-list-whole : (len : ℕ) → isList len ≡ true → len ≡ 8 * (len / 8)
-list-whole len e =
-    let whole : len % 8 ≡ 0 = eqb-true _ _ (and-left _ (leb len 4096) e) in
-    omega arith
-
-list-most : (len : ℕ) → isList len ≡ true → len / 8 ≤ 512
-list-most len e =
-    let most : len ≤ 4096 = leb-true _ _ (and-right (eqb (len % 8) 0) _ e) in
-    omega arith
-
--- a part of the space for the longest has room for its words
-module _ (space : List ℕ) (len : ℕ) (e : length space ≡ 512) (h : isList len ≡ true) where
-  pub list-room : length (take (len / 8) space) ≡ len / 8
-  list-room = length-take-le (len / 8) space (rw e (list-most len h))
-
-  pub list-fits : len ≡ 8 * length (take (len / 8) space)
-  list-fits = list-whole len h ∙ ap (λ (n : ℕ). 8 * n) (sym list-room)
+pub list-whole : (len : ℕ) → isList len ≡ true → len % 8 ≡ 0
+list-whole len e = eqb-true _ _ (and-left (eqb (len % 8) 0) (leb len (8 * mostEntries)) e)
 
 -- ---- the place of 42
 
@@ -71,16 +54,6 @@ module _ (s : Session) (len : ℕ) (phases : List Phase) where
 
   ran-place : (l : List Test) (code : ℕ) → allCodes later l ≡ true → later code ≡ true → gated s len phases l ≡ 0 → before42 code ≡ firstGroup s len phases
   ran-place l code e h z = eqb-true (before42 code) 42 h ∙ ap before42 (sym z) ∙ gate-place l e
-
-  -- as the code has it
-  pub gate-first : (gate : ℕ) → gate ≡ gated s len phases [] → cond (eqb gate 0) codes.operandInvalid gate ≡ firstGroup s len phases
-  unfolding gated
-  gate-first gate e = rw e (go (not (formed s len)) (not (among phases (s .phase))))
-    where
-      go : (a b : Bool) → cond (eqb (cond a 40 (cond b 41 0)) 0) codes.operandInvalid (cond a 40 (cond b 41 0)) ≡ cond a 40 (cond b 41 42)
-      go true b = refl
-      go false true = refl
-      go false false = refl
 
 pub dscan-comes : (first count budget : ℕ) → ComesIn (Dscan first count budget) (Live ∷ [])
 unfolding dscanCode

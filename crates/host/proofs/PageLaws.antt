@@ -3,7 +3,7 @@
 use mathlib.Core.Path.{_≡_, refl}
 use mathlib.Core.Bool.{Bool, true, false, cond}
 use mathlib.Core.List.{List, []}
-use Prim.Native.Nat.{ℕ, _/_}
+use Prim.Native.Nat.{ℕ}
 use lib.Dec.{eqb}
 use lib.ListN.{length}
 use borrow.Author.Tests.{eqb-true}
@@ -19,14 +19,15 @@ use Rattle.calls.specs.declared.Call.the-variants.{OnPage}
 use Rattle.wire.specs.Bytes.{wordsOf, Bytes}
 use Rattle.wire.specs.Sessions.{sessionOf}
 use Rattle.wire.specs.Tables.{putPage}
-use Rattle.wire.proofs.BytesLaws.{words-length, page-bytes}
+use Rattle.wire.proofs.BytesLaws.{page-bytes}
 use Rattle.host.specs.Host.{Left, lent, codeAlone, leaving, played, hostOf}
-use Rattle.host.specs.Inside.{readable}
-use Rattle.host.proofs.LayoutLaws.{readable-means, table-whole, table-kept, session-kept, host-played}
+use Rattle.host.proofs.LayoutLaws.{Sound, table-whole, table-kept, table-formed, session-kept, host-played}
 
 -- the turn on the words that the bytes are
 abbrev pub turnOn : Move → List ℕ → List ℕ → ℕ → Turn
-turnOn m s t page = pageTurn m (sessionOf (wordsOf s)) (length t / 8) page (wordsAt (wordsOf t) page)
+turnOn m s t page =
+    let session = sessionOf (wordsOf s) in
+    pageTurn m (session .phase) (session .fixed .pages) (session .clock) page (wordsAt (wordsOf t) page)
 
 -- what it leaves
 abbrev pub turnLeft : List ℕ → List ℕ → ℕ → Turn → Left
@@ -48,18 +49,17 @@ no-words : wordsOf [] ≡ []
 unfolding wordsOf
 no-words = refl
 
-pub one-page : (m : Move) (s t : List ℕ) (page : ℕ) → Bytes s → Bytes t → readable s (length t) ≡ true →
+pub one-page : (m : Move) (s t : List ℕ) (page : ℕ) → Bytes s → Bytes t → Sound s (length t) →
     hostOf (OnPage page m) (lent s t) ≡ turnLeft s t page (turnOn m s t page)
 unfolding played
-one-page m s t page x y e =
-    rw (host-played (OnPage page m) (lent s t) refl e refl, page-turn m, no-words, words-length t)
+one-page m s t page x y h =
+    rw (host-played (OnPage page m) (lent s t) refl h refl, page-turn m (sessionOf (wordsOf s)) (wordsOf t) page (table-formed s t h), no-words)
     (go (turnOn m s t page))
   where
     go : (turn : Turn) → leaving (effect (answered (turn .code) (sessionOf (wordsOf s)) (wordsOf t) (sessionOf (wordsOf s))
         (putAt (wordsOf t) page (turn .words))) [] []) (lent s t) ≡ turnLeft s t page turn
     go turn =
-        let table = readable-means s (length t) e .table in
-        let kept = session-kept s (length t) x e in
+        let kept = session-kept s (length t) x h in
         answered-either (λ (o : Outcome). leaving (effect o [] []) (lent s t) ≡ turnLeft s t page turn) (turn .code) _ _ _ _
-        (λ z. rw (eqb-true (turn .code) 0 z, page-bytes t page (turn .words) y (table-whole (length t) table), kept))
-        (λ n. simp (n, kept, table-kept t y table, same))
+        (λ z. rw (eqb-true (turn .code) 0 z, page-bytes t page (turn .words) y (table-whole (length t) (h .table)), kept))
+        (λ n. simp (n, kept, table-kept t y (h .table), same))

@@ -1,16 +1,16 @@
 // Calls on every page: New, track, start, pause and abort. The table's bytes are read, moved and cleared in place; a call that is refused writes none.
 ghost use mathlib.Core.Path.{_≡_};
-ghost use mathlib.Core.Bool.{_&&_};
-ghost use Rattle.migration.specs.Migration.{stopped, onAll};
+ghost use mathlib.Core.Bool.{true, _&&_};
+ghost use lib.ListN.{length};
+ghost use Rattle.migration.specs.Migration.{stopped};
 ghost use Rattle.calls.specs.declared.Call.the-variants.{New, OnAll};
 ghost use Rattle.wire.specs.Bytes.{wordsOf};
-ghost use Rattle.host.specs.Host.{Lent, lent, Left, hostOf};
-use crate::answers;
+ghost use Rattle.host.specs.Host.{Lent, lent, Left, sessionBytes, hostOf};
+ghost use Rattle.host.specs.Inside.{sound, SweepTold};
 use crate::reads;
 use migration::Stops;
 use page::sweeps::Sweep;
-use session::Answer;
-use session::Session;
+use session::changes::Verdict;
 use wire::sessions;
 use wire::tables;
 use words::codes;
@@ -28,12 +28,17 @@ fn is_stopped(asked: bool, table: &[u8], k: Stops) -> bool
     false
 }
 
-fn answer_of(k: Sweep, s: Session, table: &[u8]) -> Answer
-    ensures { λ r. ⌜ r ≡ onAll k s (wordsOf (now (table .entry))) .answer ⌝ }
+// What the call comes to. Past 40.
+fn verdict_of(k: Sweep, session: &[u8], table: &[u8]) -> Verdict
+    requires { ⌜ length (now session) ≡ sessionBytes ⌝ }
+    ensures { λ r. ⌜ (sound (now (session .entry)) (length (now (table .entry))) ≡ true → SweepTold k (now (session .entry)) (now (table .entry)) r) ⌝ }
 {
-    let gate = migration::sweep_gate(k, s, table.len() / 8);
+    let phase = sessions::phase_at(session);
+    let gate = session::phase_code(phase, migration::sweep_when(k));
     let stops = is_stopped(gate == codes::DONE, table, migration::stops_at(k));
-    migration::sweep_answer(k, s, gate, stops)
+    let clock = sessions::clock_at(session);
+    let busy = sessions::is_busy(session);
+    migration::sweep_verdict(k, gate, clock, busy, stops)
 }
 
 pub fn on_all(k: Sweep, session: &mut [u8], table: &mut [u8]) -> u64
@@ -41,14 +46,14 @@ pub fn on_all(k: Sweep, session: &mut [u8], table: &mut [u8]) -> u64
     ensures { λ _. ⌜ now (session .exit) ≡ hostOf (OnAll k) (lent (now (session .entry)) (now (table .entry))) .session ⌝ }
     ensures { λ _. ⌜ now (table .exit) ≡ hostOf (OnAll k) (lent (now (session .entry)) (now (table .entry))) .table ⌝ }
 {
-    let found = reads::read(&session[..], table.len());
-    if found.fits {
-        let answer = answer_of(k, found.session, &table[..]);
-        if answer.code == codes::DONE {
+    if reads::is_sound(&session[..], table.len()) {
+        let made = verdict_of(k, &session[..], &table[..]);
+        if made.code == codes::DONE {
             tables::sweep_all(table, k);
-            answers::put_session(session, answer.session);
+            let change = made.change;
+            sessions::put_change(session, change);
         }
-        return answer.code;
+        return made.code;
     }
     codes::MALFORMED
 }
@@ -58,17 +63,16 @@ pub fn new(session: &mut [u8], table: &mut [u8], created: u64) -> u64
     ensures { λ _. ⌜ now (session .exit) ≡ hostOf (New created) (lent (now (session .entry)) (now (table .entry))) .session ⌝ }
     ensures { λ _. ⌜ now (table .exit) ≡ hostOf (New created) (lent (now (session .entry)) (now (table .entry))) .table ⌝ }
 {
-    let blank = [0u64; sessions::SESSION_WORDS];
     let whole = session.len() == reads::SESSION_BYTES;
     let legal = reads::is_table(table.len());
     if whole & legal {
-        let s = sessions::session_of(&blank);
-        let answer = memory::new_answer(s, table.len() / 8, created);
-        if answer.code == codes::DONE {
+        let code = memory::new_code(table.len() / 8, created);
+        if code == codes::DONE {
+            let made = session::new_session(table.len() / 16, created);
             tables::clear(table);
-            answers::put_session(session, answer.session);
+            sessions::put_session(session, made);
         }
-        return answer.code;
+        return code;
     }
     codes::MALFORMED
 }

@@ -1,20 +1,22 @@
 // Calls that write no byte of the table: new epoch and reset, which ask for its length alone, and the start token, which looks at its pages in place.
 ghost use mathlib.Core.Path.{_≡_};
 ghost use mathlib.Core.Bool.{true};
+ghost use lib.ListN.{length};
 ghost use Rattle.page.specs.Page.{sought};
 ghost use Rattle.table.specs.Table.{pageCount, lowest};
-ghost use Rattle.migration.specs.Token.{tokenOut};
 ghost use Rattle.wire.specs.Bytes.{wordsOf};
 ghost use Rattle.calls.specs.declared.Call.the-variants.{OnSession, StartToken};
-ghost use Rattle.host.specs.Host.{Lent, lent, Left, hostOf};
+ghost use Rattle.host.specs.Host.{Lent, lent, Left, sessionBytes, hostOf};
+ghost use Rattle.host.specs.Inside.{sound, TokenTold};
 use crate::answers;
 use crate::answers::Numbers;
 use crate::reads;
 use migration::Alone;
 use migration::token;
-use migration::token::TokenAnswer;
+use migration::token::Token;
 use page::queries::Sought;
-use session::Session;
+use session::When;
+use wire::sessions;
 use wire::tables;
 use words::codes;
 
@@ -23,11 +25,15 @@ pub fn on_session(k: Alone, session: &mut [u8], table: &[u8]) -> u64
     ensures { λ _. ⌜ now (session .exit) ≡ hostOf (OnSession k) (lent (now (session .entry)) (now (table .entry))) .session ⌝ }
     ensures { λ _. ⌜ now (table .exit) ≡ hostOf (OnSession k) (lent (now (session .entry)) (now (table .entry))) .table ⌝ }
 {
-    let found = reads::read(&session[..], table.len());
-    if found.fits {
-        let answer = migration::on_session(k, found.session, table.len() / 8);
-        answers::put_unless(answer.code, session, answer.session);
-        return answer.code;
+    if reads::is_sound(&session[..], table.len()) {
+        let phase = sessions::phase_at(&session[..]);
+        let gate = session::phase_code(phase, migration::alone_when(k));
+        let epoch = sessions::epoch_at(&session[..]);
+        let busy = sessions::is_busy(&session[..]);
+        let made = migration::alone_verdict(k, gate, epoch, busy);
+        let change = made.change;
+        sessions::put_change(session, change);
+        return made.code;
     }
     codes::MALFORMED
 }
@@ -44,18 +50,24 @@ fn first(asked: bool, table: &[u8], k: Sought) -> usize
     0
 }
 
-fn answer_of(s: Session, table: &[u8]) -> TokenAnswer
-    ensures { λ r. ⌜ r ≡ tokenOut s (wordsOf (now (table .entry))) ⌝ }
+// What the token is. Past 40.
+fn token_of(session: &[u8], table: &[u8]) -> Token
+    requires { ⌜ length (now session) ≡ sessionBytes ⌝ }
+    ensures { λ r. ⌜ (sound (now (session .entry)) (length (now (table .entry))) ≡ true → TokenTold (now (session .entry)) (now (table .entry)) r) ⌝ }
 {
     let pages = table.len() / 16;
-    let gate = token::token_gate(s, table.len() / 8);
+    let phase = sessions::phase_at(session);
+    let comes = session::phase_code(phase, When::Blackout);
+    let busy = sessions::is_busy(session);
+    let check = sessions::check_at(session);
+    let gate = token::token_gate(comes, busy, check.complete);
     let first53 = first(gate == codes::DONE, table, Sought::Gives53);
     let first54 = first(
         (gate == codes::DONE) & (pages <= first53),
         table,
         Sought::Gives54,
     );
-    token::token_answer(s, gate, pages, first53, first54)
+    token::token_of(gate, pages, first53, first54)
 }
 
 pub fn start_token(session: &mut [u8], table: &[u8]) -> Numbers
@@ -63,13 +75,11 @@ pub fn start_token(session: &mut [u8], table: &[u8]) -> Numbers
     ensures { λ _. ⌜ now (session .exit) ≡ hostOf StartToken (lent (now (session .entry)) (now (table .entry))) .session ⌝ }
     ensures { λ _. ⌜ now (table .exit) ≡ hostOf StartToken (lent (now (session .entry)) (now (table .entry))) .table ⌝ }
 {
-    let found = reads::read(&session[..], table.len());
-    if found.fits {
-        let answer = answer_of(found.session, table);
-        let token = answer.token;
+    if reads::is_sound(&session[..], table.len()) {
+        let token = token_of(&session[..], table);
         let code = token::number_of(token);
         let page = token::page_of(token);
-        answers::put_unless(code, session, answer.session);
+        sessions::put_change(session, token::change_of(token));
         return Numbers {
             code,
             page: page as u64,

@@ -63,7 +63,7 @@ fn step(
     let got = lists::take(kind, g, word, held, before);
     let after = got.words;
     let next = runs::count(at, got);
-    tables::store(table, k, after);
+    tables::replace(table, k, before, after);
     bytes::put_word(list, 8 * i, got.word);
     hold(buffer, i, got.buffer);
     next

@@ -4,10 +4,11 @@ ghost use mathlib.Core.Bool.{cond, true};
 ghost use Prim.Native.Nat.{_+_, _*_, _/_, _%_, _≤_, _<_};
 ghost use lib.ListN.{length, set};
 ghost use Rattle.page.specs.Page.{pageOf, onWords};
-ghost use Rattle.table.specs.Table.{mostPages, putAt};
+ghost use Rattle.table.specs.Table.{mostPages, wordsAt, pageAt, putAt};
 ghost use Rattle.scan.specs.Look.{listedWord, listedPage};
 ghost use Rattle.scan.specs.Scan.{scanRun, rangeRun};
 ghost use Rattle.wire.specs.Bytes.{wordsOf, bytesOf};
+ghost use Rattle.in_place.specs.Turn.{turnCode, visits};
 use page::Clock;
 use page::PageWords;
 use page::queries;
@@ -46,7 +47,54 @@ fn visit(
     put
 }
 
-// The pages of a part of the table in turn.
+// What a look comes to: why the scan stops at the page, or 0, and how many words are then written.
+struct Turn {
+    code: u64,
+    put: usize,
+}
+
+// One page that the budget reaches. Most are neither blocked nor listed, and are passed at once.
+fn look_at(part: &mut [u8], list: &mut [u8], scan: Scan, i: usize, put: usize) -> Turn
+    requires { ⌜ (length (now part) % 8 ≡ 0) × (length (now list) % 8 ≡ 0) × (scan .first + i < mostPages) × (i < scan .budget) ⌝ }
+    ensures { λ r. ⌜ r .code ≡ turnCode scan i put (wordsOf (now (part .entry))) (wordsOf (now (list .entry))) ⌝ }
+    ensures { λ r. ⌜ r .put ≡ cond (visits scan i put (wordsOf (now (part .entry))) (wordsOf (now (list .entry)))) (put + 1) put ⌝ }
+    ensures { λ _. ⌜ wordsOf (now (part .exit)) ≡ cond (visits scan i put (wordsOf (now (part .entry))) (wordsOf (now (list .entry))))
+        (putAt (wordsOf (now (part .entry))) i (onWords (listedPage (scan .clock)) (wordsAt (wordsOf (now (part .entry))) i)))
+        (wordsOf (now (part .entry))) ⌝ }
+    ensures { λ _. ⌜ wordsOf (now (list .exit)) ≡ cond (visits scan i put (wordsOf (now (part .entry))) (wordsOf (now (list .entry))))
+        (set (wordsOf (now (list .entry))) put (listedWord (pageAt (wordsOf (now (part .entry))) i .state) (scan .first + i)))
+        (wordsOf (now (list .entry))) ⌝ }
+{
+    let words = tables::load(&part[..], i);
+    let blocked = queries::is_blocked(words);
+    let listed = looks::is_listed(words);
+    if !(blocked | listed) {
+        return Turn {
+            code: codes::DONE,
+            put,
+        };
+    }
+    let code = scan::stop_code(scan, blocked, listed, i, put, list.len() / 8);
+    if code != codes::DONE {
+        return Turn { code, put };
+    }
+    let written = visit(
+        part,
+        list,
+        i,
+        put,
+        words,
+        listed,
+        scan.first + i,
+        scan.clock,
+    );
+    Turn {
+        code: codes::DONE,
+        put: written,
+    }
+}
+
+// The pages of a part of the table in turn. A page that the budget does not reach is not looked at.
 fn scan_part(part: &mut [u8], list: &mut [u8], scan: Scan) -> Scanned
     requires { ⌜ (length (now part) % 8 ≡ 0) × (length (now list) % 8 ≡ 0) × (scan .first + length (now part) / 16 ≤ mostPages) ⌝ }
     ensures { λ r. ⌜ r ≡ scanRun (length (now (part .entry)) / 16) scan 0 0 (wordsOf (now (part .entry))) (wordsOf (now (list .entry))) .scanned ⌝ }
@@ -56,31 +104,25 @@ fn scan_part(part: &mut [u8], list: &mut [u8], scan: Scan) -> Scanned
         (scanRun (length (now (part .entry)) / 16) scan 0 0 (wordsOf (now (part .entry))) (wordsOf (now (list .entry))) .list) ⌝ }
 {
     let n = part.len() / 16;
-    let room = list.len() / 8;
     let mut i: usize = 0;
     let mut put: usize = 0;
     while i < n {
-        let words = tables::load(&part[..], i);
-        let blocked = queries::is_blocked(words);
-        let listed = looks::is_listed(words);
-        let code = scan::stop_code(scan, blocked, listed, i, put, room);
-        if code != codes::DONE {
+        if scan.budget <= i {
             return Scanned {
-                code,
+                code: codes::INTERRUPTED,
                 next: scan.first + i,
                 put,
             };
         }
-        put = visit(
-            part,
-            list,
-            i,
-            put,
-            words,
-            listed,
-            scan.first + i,
-            scan.clock,
-        );
+        let turn = look_at(part, list, scan, i, put);
+        if turn.code != codes::DONE {
+            return Scanned {
+                code: turn.code,
+                next: scan.first + i,
+                put,
+            };
+        }
+        put = turn.put;
         i = i + 1;
     }
     let code = scan::end_code(scan.checking);

@@ -1,4 +1,4 @@
--- What a call answers without the table's words, and what it knows once its code is 0.
+-- What a call on one page is behind 40, and what it knows once its code is 0.
 use mathlib.Core.Path.{_≡_, refl, sym, subst}
 use mathlib.Core.Bool.{true, false}
 use mathlib.Core.List.{List}
@@ -22,20 +22,16 @@ use Rattle.session.specs.Outcome.{Outcome, outcome, answered}
 use Rattle.session.specs.declared.Session.{Session}
 use Rattle.session.proofs.Laws.{answered-either}
 use Rattle.session.proofs.FormedLaws.{formed-means, tlb-fits}
-use Rattle.memory.specs.Memory.{newAnswer, newOut, pageTests, pageTurn, onPage}
-
--- what New answers, of any table of that length
-pub new-answer : (s : Session) (len : ℕ) (t : List ℕ) (created : ℕ) → length t ≡ len → newAnswer s len created ≡ newOut s t created .answer
-unfolding newAnswer newOut answered
-new-answer s len t created e = rw (← e)
+use Rattle.memory.specs.Memory.{pageTests, pageTurn, onPage}
 
 -- ---- a call on one page that is done
 
--- the call is its turn on the words that the table holds
-pub page-turn : (m : Move) (s : Session) (t : List ℕ) (at : ℕ) →
-    onPage m s t at ≡ answered (pageTurn m s (length t) at (wordsAt t at) .code) s t s (putAt t at (pageTurn m s (length t) at (wordsAt t at) .words))
+-- behind 40 the call is its turn on the words that the table holds
+pub page-turn : (m : Move) (s : Session) (t : List ℕ) (at : ℕ) → formed s (length t) ≡ true →
+    let turn = pageTurn m (s .phase) (s .fixed .pages) (s .clock) at (wordsAt t at) in
+    onPage m s t at ≡ answered (turn .code) s t s (putAt t at (turn .words))
 unfolding onPage pageTurn
-page-turn m s t at = refl
+page-turn m s t at f = rw f
 
 -- it has passed them
 pub record Done (m : Move) (s : Session) (len at : ℕ) (p : Page) : Type 0 where

@@ -2,15 +2,18 @@
 ghost use mathlib.Core.Path.{_≡_};
 ghost use Rattle.refusals.specs.Refusals.{firstOf};
 ghost use Rattle.page.specs.Page.{pageOf};
-ghost use Rattle.memory.specs.Memory.{newCode, newAnswer, newOut, pageTests, pageTurn, onPage};
+ghost use Rattle.memory.specs.Memory.{newCode, newOut, turnTests, pageTurn, onPage};
+use page::Clock;
 use page::PageWords;
 use page::moves;
 use page::moves::Move;
 use session::Answer;
+use session::Phase;
 use session::Session;
 use words::codes;
 
-fn new_code(len: usize, created: u64) -> u64
+// What New answers, of a table of that length.
+pub fn new_code(len: usize, created: u64) -> u64
     ensures { λ r. ⌜ r ≡ newCode len created ⌝ }
 {
     let legal = table::is_legal(len);
@@ -23,45 +26,31 @@ fn new_code(len: usize, created: u64) -> u64
     codes::DONE
 }
 
-// What New answers, of a table of that length.
-pub fn new_answer(s: Session, len: usize, created: u64) -> Answer
-    ensures { λ r. ⌜ r ≡ newAnswer s len created ⌝ }
-{
-    let code = new_code(len, created);
-    if code != codes::DONE {
-        return Answer { code, session: s };
-    }
-    let session = session::new_session(len / 2, created);
-    Answer { code, session }
-}
-
 // A new bench over the lent table.
 pub fn new(s: Session, table: &mut [u64], created: u64) -> Answer
     ensures { λ r. ⌜ r ≡ newOut s (now (table .entry)) created .answer ⌝ }
     ensures { λ _. ⌜ now (table .exit) ≡ newOut s (now (table .entry)) created .table ⌝ }
 {
-    let answer = new_answer(s, table.len(), created);
-    if answer.code == codes::DONE {
-        table::clear(table);
+    let code = new_code(table.len(), created);
+    if code != codes::DONE {
+        return Answer { code, session: s };
     }
-    answer
+    let session = session::new_session(table.len() / 2, created);
+    table::clear(table);
+    Answer { code, session }
 }
 
 // ---- calls on one page
 
-fn page_code(m: Move, s: Session, len: usize, at: usize, w: PageWords) -> u64
-    ensures { λ r. ⌜ r ≡ firstOf (pageTests m s len at (pageOf w)) ⌝ }
+// Behind 40.
+fn turn_code(m: Move, phase: Phase, pages: usize, clock: Clock, at: usize, w: PageWords) -> u64
+    ensures { λ r. ⌜ r ≡ firstOf (turnTests m phase pages clock at (pageOf w)) ⌝ }
 {
-    let p = s.phase;
-    let comes = session::comes_in(p);
+    let comes = session::comes_in(phase);
     let block = moves::is_block(m);
-    let formed = session::is_formed(s, len);
-    let beyond = s.fixed.pages <= at;
+    let beyond = pages <= at;
     let barred = block & comes.blackout;
     let away = !comes.guest;
-    if !formed {
-        return codes::MALFORMED;
-    }
     if barred {
         return codes::BLOCKING_DISALLOWED;
     }
@@ -71,7 +60,7 @@ fn page_code(m: Move, s: Session, len: usize, at: usize, w: PageWords) -> u64
     if beyond {
         return codes::OPERAND_INVALID;
     }
-    moves::move_code(m, w, s.clock)
+    moves::move_code(m, w, clock)
 }
 
 // What a call on one page comes to: its code, and the page's two words if that is 0.
@@ -80,12 +69,12 @@ pub struct Turn {
     pub words: PageWords,
 }
 
-// The whole call on the page's two words, for whoever holds them without a table of words.
-pub fn on_words(m: Move, s: Session, len: usize, at: usize, w: PageWords) -> Turn
-    ensures { λ r. ⌜ r ≡ pageTurn m s len at w ⌝ }
+// The whole call behind 40, on the page's two words and what it asks of the session, for whoever holds these in another form.
+pub fn on_words(m: Move, phase: Phase, pages: usize, clock: Clock, at: usize, w: PageWords) -> Turn
+    ensures { λ r. ⌜ r ≡ pageTurn m phase pages clock at w ⌝ }
 {
-    let code = page_code(m, s, len, at, w);
-    let words = moves::move_words(m, w, s.clock);
+    let code = turn_code(m, phase, pages, clock, at, w);
+    let words = moves::move_words(m, w, clock);
     Turn { code, words }
 }
 
@@ -93,8 +82,17 @@ pub fn on_page(m: Move, s: Session, table: &mut [u64], at: usize) -> Answer
     ensures { λ r. ⌜ r ≡ onPage m s (now (table .entry)) at .answer ⌝ }
     ensures { λ _. ⌜ now (table .exit) ≡ onPage m s (now (table .entry)) at .table ⌝ }
 {
+    let formed = session::is_formed(s, table.len());
+    if !formed {
+        return Answer {
+            code: codes::MALFORMED,
+            session: s,
+        };
+    }
+    let phase = s.phase;
+    let clock = s.clock;
     let before = table::load(&table[..], at);
-    let turn = on_words(m, s, table.len(), at, before);
+    let turn = on_words(m, phase, s.fixed.pages, clock, at, before);
     let code = turn.code;
     let after = turn.words;
     if code == codes::DONE {

@@ -15,15 +15,15 @@ use Rattle.page.specs.Sweeps.{sweptBy}
 use Rattle.page.specs.declared.sweeps.Sweep.{Sweep}
 use Rattle.page.specs.declared.sweeps.Sweep.the-variants.{Track, Start, Pause, Abort}
 use Rattle.table.specs.Table.{pageCount, sweepOf, lowest, some}
-use Rattle.session.specs.Session.{phasesOf}
-use Rattle.session.specs.Formed.{gateTests, gated, behind}
-use Rattle.session.specs.Outcome.{Outcome, outcome, answerFor, answered}
+use Rattle.session.specs.Session.{phasesOf, changedBy}
+use Rattle.session.specs.Formed.{busy, gateTests, gated, behind}
+use Rattle.session.specs.Outcome.{Outcome, outcome, answered, answeredBy}
 use Rattle.session.specs.declared.When.the-variants as when
 use Rattle.session.specs.declared.Session.{Session}
-use Rattle.session.proofs.Laws.{Open, first-then, behind-gate, gate-open, open-gate, answered-either}
-use Rattle.migration.specs.Migration.{sweepWhen, stopsAt, stopped, sweepTests, sweepNext, sweepCode, sweepAnswer, onAll}
-use Rattle.migration.specs.Migration.{aloneWhen, aloneTests, aloneNext, aloneCode, aloneAnswer, onSession}
-use Rattle.migration.specs.Token.{TokenNumbers, tokenSays, tokenGate, tokenCode, inTheWay, tokenFor, tokenOut, tokenAnswer}
+use Rattle.session.proofs.Laws.{Open, first-then, gate-first, behind-gate, gate-open, open-gate, verdict-answered, verdict-session, answered-either}
+use Rattle.migration.specs.Migration.{sweepWhen, stopsAt, stopped, sweepTests, sweepChange, sweepNext, sweepCode, sweepVerdict, onAll}
+use Rattle.migration.specs.Migration.{aloneWhen, aloneTests, aloneChange, aloneNext, aloneCode, aloneVerdict, aloneAnswer, onSession}
+use Rattle.migration.specs.Token.{TokenNumbers, tokenSays, tokenGate, tokenCode, inTheWay, tokenFor, tokenOut, tokenTold, tokenChange}
 use Rattle.migration.specs.declared.Alone.{Alone}
 use Rattle.migration.specs.declared.Alone.the-variants.{NewEpoch, Reset}
 use Rattle.migration.specs.declared.token.Token.the-variants.{Granted, Refused, InTheWay}
@@ -57,17 +57,16 @@ module _ (P : Outcome → Type 0) (k : Sweep) (s : Session) (t : List ℕ) where
       (λ q. let z = eqb-true (sweepCode k s t) 0 q in rw z (made (sweep-open k s t z)))
       kept
 
-module _ (k : Sweep) (s : Session) (t : List ℕ) (gate : ℕ) (stops : Bool) where
-  -- what it answers from what it is told: the table is asked for only where the gate is passed
-  pub sweep-answer :
-      gate ≡ gated s (length t) (phasesOf (sweepWhen k)) [] →
-      (gate ≡ 0 → stops ≡ stopped (stopsAt k) t) →
-      sweepAnswer k s gate stops ≡ onAll k s t .answer
-  unfolding sweepAnswer onAll sweepCode answered
-  sweep-answer e f =
-      ap (λ (code : ℕ). answerFor code s (sweepNext k s))
-      (behind-gate s (length t) (phasesOf (sweepWhen k)) (sweepTests k s stops) (sweepTests k s (stopped (stopsAt k) t)) gate e
-      (λ z. ap (λ (b : Bool). firstOf (sweepTests k s b)) (f z)))
+-- the call is what it comes to from what it is told: the table is asked for only where the gate is passed
+pub sweep-told : (k : Sweep) (s : Session) (t : List ℕ) (gate : ℕ) (stops : Bool) → gate ≡ gated s (length t) (phasesOf (sweepWhen k)) [] →
+    (gate ≡ 0 → stops ≡ stopped (stopsAt k) t) →
+    let v = sweepVerdict k gate (s .clock) (busy s) stops in
+    answeredBy (sweptBy k) (v .code) s (changedBy (v .change) s) t ≡ onAll k s t
+unfolding sweepVerdict onAll sweepCode
+sweep-told k s t gate stops e f =
+    rw (behind-gate s (length t) (phasesOf (sweepWhen k)) (sweepTests k s stops) (sweepTests k s (stopped (stopsAt k) t)) gate e
+    (λ z. ap (λ (b : Bool). firstOf (sweepTests k s b)) (f z)))
+    (verdict-answered _ (sweepChange k (s .clock)) s t (sweepOf (onWords (sweptBy k)) t))
 
 -- ---- the calls on the session alone
 
@@ -101,6 +100,15 @@ alone-done k s t o = rw (open-gate s (length t) (phasesOf (aloneWhen k)) (aloneT
 pub alone-answer : (k : Alone) (s : Session) (len : ℕ) (t : List ℕ) → length t ≡ len → aloneAnswer k s len ≡ onSession k s t .answer
 unfolding aloneAnswer onSession answered
 alone-answer k s len t e = rw (← e)
+
+-- the answer is what it comes to from its gate's code
+pub alone-told : (k : Alone) (s : Session) (len gate : ℕ) → gate ≡ gated s len (phasesOf (aloneWhen k)) [] →
+    let v = aloneVerdict k gate (s .epoch) (busy s) in
+    record { code = v .code; session = changedBy (v .change) s } ≡ aloneAnswer k s len
+unfolding aloneVerdict aloneAnswer aloneCode
+alone-told k s len gate e =
+    rw (e, ← gate-first s len (phasesOf (aloneWhen k)) (aloneTests k s))
+    (ap (λ (x : Session). record { code = aloneCode k s len; session = x }) (verdict-session (aloneCode k s len) (aloneChange k (s .epoch)) s))
 
 -- they leave the table
 pub alone-table : (k : Alone) (s : Session) (t : List ℕ) → onSession k s t .table ≡ t
@@ -163,11 +171,12 @@ cases : {P : Type 0} (b : Bool) → (b ≡ true → P) → (b ≡ false → P) �
 cases true f g = f refl
 cases false f g = g refl
 
-pub token-answer : (s : Session) (t : List ℕ) (gate pages first53 first54 : ℕ) → gate ≡ gated s (length t) (phasesOf when.Blackout) (tokenGate s) →
+pub token-told : (s : Session) (t : List ℕ) (gate pages first53 first54 : ℕ) → gate ≡ gated s (length t) (phasesOf when.Blackout) (tokenGate s) →
     pages ≡ pageCount t → (gate ≡ 0 → first53 ≡ lowest gives53 (pageCount t) 0 t) → (gate ≡ 0 → pages ≤ first53 → first54 ≡ lowest gives54 (pageCount t) 0 t) →
-    tokenAnswer s gate pages first53 first54 ≡ tokenOut s t
-unfolding tokenAnswer tokenOut tokenFor inTheWay some
-token-answer s t gate pages first53 first54 e n f g =
+    let token = tokenTold gate pages first53 first54 in
+    record { token = token; session = changedBy (tokenChange token) s } ≡ tokenOut s t
+unfolding tokenTold tokenOut tokenFor inTheWay some
+token-told s t gate pages first53 first54 e n f g =
     cases (eqb gate 0)
     (λ z.
     cases (ltb first53 pages)

@@ -8,18 +8,22 @@ use Rattle.words.specs.Codes as codes
 use Rattle.refusals.specs.Refusals.{Test, _gives_}
 use Rattle.page.specs.Page.{sought}
 use Rattle.page.specs.Sweeps.{sweptBy}
+use Rattle.page.specs.declared.Clock.{Clock}
 use Rattle.page.specs.declared.queries.Sought.the-variants.{Unstartable, Blocked}
 use Rattle.page.specs.declared.sweeps.Sweep.{Sweep}
 use Rattle.page.specs.declared.sweeps.Sweep.the-variants.{Track, Start, Pause, Abort}
 use Rattle.table.specs.Table.{some}
-use Rattle.session.specs.Session.{phasesOf, unchecked, ticked, begun, withPhase, withEpoch, withClock, withCheck}
+use Rattle.session.specs.Session.{phasesOf, unchecked, ticked, changedBy}
 use Rattle.session.specs.Formed.{gated, behind, busy, lastEpoch}
-use Rattle.session.specs.Outcome.{Outcome, answerFor, answered, answeredBy}
+use Rattle.session.specs.Outcome.{Outcome, answerFor, verdictFor, answered, answeredBy}
 use Rattle.session.specs.declared.Phase.the-variants.{Idle, Live, Blackout}
 use Rattle.session.specs.declared.When.{When}
 use Rattle.session.specs.declared.When.the-variants as when
 use Rattle.session.specs.declared.Session.{Session}
 use Rattle.session.specs.declared.Answer.{Answer}
+use Rattle.session.specs.declared.changes.Change.{Change}
+use Rattle.session.specs.declared.changes.Change.the-variants.{ToPhase, ToEpoch, ToClock, ToCheck, Begin}
+use Rattle.session.specs.declared.changes.Verdict.{Verdict}
 use Rattle.migration.specs.declared.Stops.{Stops}
 use Rattle.migration.specs.declared.Stops.the-variants.{Never, At}
 use Rattle.migration.specs.declared.Alone.{Alone}
@@ -46,19 +50,25 @@ stopped Never t = false
 stopped (At kind) t = some (sought kind) t
 
 -- track: 56 at the limit; start: 45 where a page stops it; pause: 48 where one does, then 43
+abbrev pub sweepAsks : Sweep → Clock → Bool → Bool → List Test
+sweepAsks Track clock busy stops = leb lastEpoch (clock .tlb) gives codes.tlbEpochAtLimit ∷ []
+sweepAsks Start clock busy stops = stops gives codes.eptEntryStateIncorrect ∷ []
+sweepAsks Pause clock busy stops = stops gives codes.blockedMemoryExists ∷ busy gives codes.operandBusy ∷ []
+sweepAsks Abort clock busy stops = []
+
 abbrev pub sweepTests : Sweep → Session → Bool → List Test
-sweepTests Track s stops = leb lastEpoch (s .clock .tlb) gives codes.tlbEpochAtLimit ∷ []
-sweepTests Start s stops = stops gives codes.eptEntryStateIncorrect ∷ []
-sweepTests Pause s stops = stops gives codes.blockedMemoryExists ∷ busy s gives codes.operandBusy ∷ []
-sweepTests Abort s stops = []
+sweepTests k s stops = sweepAsks k (s .clock) (busy s) stops
 
 -- track: TLB epoch plus one; start: Live, migration epoch 1, check reset, streams at rest; pause: Blackout;
 -- abort: Idle, the session's migration epoch 0, streams at rest, check reset
+abbrev pub sweepChange : Sweep → Clock → Change
+sweepChange Track clock = ToClock (ticked clock)
+sweepChange Start clock = Begin Live 1
+sweepChange Pause clock = ToPhase Blackout
+sweepChange Abort clock = Begin Idle 0
+
 abbrev pub sweepNext : Sweep → Session → Session
-sweepNext Track s = withClock s (ticked (s .clock))
-sweepNext Start s = begun s Live 1
-sweepNext Pause s = withPhase s Blackout
-sweepNext Abort s = begun s Idle 0
+sweepNext k s = changedBy (sweepChange k (s .clock)) s
 
 unfoldable pub sweepCode : Sweep → Session → List ℕ → ℕ
 sweepCode k s t = gated s (length t) (phasesOf (sweepWhen k)) (sweepTests k s (stopped (stopsAt k) t))
@@ -67,9 +77,9 @@ sweepCode k s t = gated s (length t) (phasesOf (sweepWhen k)) (sweepTests k s (s
 unfoldable pub onAll : Sweep → Session → List ℕ → Outcome
 onAll k s t = answeredBy (sweptBy k) (sweepCode k s t) s (sweepNext k s) t
 
--- what it answers, told its gate's code and whether a page stops it
-unfoldable pub sweepAnswer : Sweep → Session → ℕ → Bool → Answer
-sweepAnswer k s gate stops = answerFor (behind gate (sweepTests k s stops)) s (sweepNext k s)
+-- what it comes to, told its gate's code, what it asks of the session, and whether a page stops it
+unfoldable pub sweepVerdict : Sweep → ℕ → Clock → Bool → Bool → Verdict
+sweepVerdict k gate clock busy stops = verdictFor (behind gate (sweepAsks k clock busy stops)) (sweepChange k clock)
 
 -- ---- the calls on the session alone: new epoch, reset
 
@@ -78,14 +88,20 @@ aloneWhen NewEpoch = when.Moving
 aloneWhen Reset = when.Moving
 
 -- new epoch: 43, 55
+abbrev pub aloneAsks : Alone → ℕ → Bool → List Test
+aloneAsks NewEpoch epoch busy = busy gives codes.operandBusy ∷ leb lastEpoch epoch gives codes.migrationEpochOverflow ∷ []
+aloneAsks Reset epoch busy = []
+
 abbrev pub aloneTests : Alone → Session → List Test
-aloneTests NewEpoch s = busy s gives codes.operandBusy ∷ leb lastEpoch (s .epoch) gives codes.migrationEpochOverflow ∷ []
-aloneTests Reset s = []
+aloneTests k s = aloneAsks k (s .epoch) (busy s)
 
 -- new epoch: plus one; reset: page 0, neither complete nor failed
+abbrev pub aloneChange : Alone → ℕ → Change
+aloneChange NewEpoch epoch = ToEpoch (epoch + 1)
+aloneChange Reset epoch = ToCheck unchecked
+
 abbrev pub aloneNext : Alone → Session → Session
-aloneNext NewEpoch s = withEpoch s (s .epoch + 1)
-aloneNext Reset s = withCheck s unchecked
+aloneNext k s = changedBy (aloneChange k (s .epoch)) s
 
 unfoldable pub aloneCode : Alone → Session → ℕ → ℕ
 aloneCode k s len = gated s len (phasesOf (aloneWhen k)) (aloneTests k s)
@@ -93,6 +109,10 @@ aloneCode k s len = gated s len (phasesOf (aloneWhen k)) (aloneTests k s)
 -- the answer asks of the table its length alone
 unfoldable pub aloneAnswer : Alone → Session → ℕ → Answer
 aloneAnswer k s len = answerFor (aloneCode k s len) s (aloneNext k s)
+
+-- what it comes to, told its gate's code and what it asks of the session
+unfoldable pub aloneVerdict : Alone → ℕ → ℕ → Bool → Verdict
+aloneVerdict k gate epoch busy = verdictFor (behind gate (aloneAsks k epoch busy)) (aloneChange k epoch)
 
 -- and the table stays
 unfoldable pub onSession : Alone → Session → List ℕ → Outcome

@@ -1,5 +1,5 @@
 -- The start token.
-use mathlib.Core.Bool.{cond, not, _||_}
+use mathlib.Core.Bool.{Bool, cond, not, _||_}
 use mathlib.Core.List.{List, [], _∷_, _++_}
 use Prim.Native.Nat.{ℕ}
 use lib.Dec.{eqb, ltb}
@@ -12,6 +12,8 @@ use Rattle.session.specs.Session.{withPhase}
 use Rattle.session.specs.Formed.{gated, busy}
 use Rattle.session.specs.declared.Phase.the-variants.{Blackout, Done}
 use Rattle.session.specs.declared.Session.{Session}
+use Rattle.session.specs.declared.changes.Change.{Change}
+use Rattle.session.specs.declared.changes.Change.the-variants.{Nothing, ToPhase}
 use Rattle.migration.specs.declared.token.Token.{Token}
 use Rattle.migration.specs.declared.token.Token.the-variants.{Granted, Refused, InTheWay}
 use Rattle.migration.specs.declared.token.TokenAnswer.{TokenAnswer}
@@ -27,11 +29,11 @@ tokenSays (Refused code) = record { code = code; page = 0 }
 tokenSays (InTheWay code page) = record { code = code; page = page }
 
 -- what is asked of the session alone: 43, 52
+abbrev pub tokenAsks : Bool → Bool → List Test
+tokenAsks busy complete = busy gives codes.operandBusy ∷ not complete gives codes.memScanDcheckNotDone ∷ []
+
 abbrev pub tokenGate : Session → List Test
-tokenGate s =
-    busy s gives codes.operandBusy
-    ∷ not (s .check .complete) gives codes.memScanDcheckNotDone
-    ∷ []
+tokenGate s = tokenAsks (busy s) (s .check .complete)
 
 -- then 53, 54
 abbrev pub tokenTests : Session → List ℕ → List Test
@@ -60,10 +62,15 @@ unfoldable pub tokenOut : Session → List ℕ → TokenAnswer
 tokenOut s t =
     record { token = tokenFor (tokenCode s t) t; session = cond (eqb (tokenCode s t) codes.done) (withPhase s Done) s }
 
--- what it answers, told the code before 53, how many pages there are, and the lowest of them that give 53 and 54
-unfoldable pub tokenAnswer : Session → ℕ → ℕ → ℕ → ℕ → TokenAnswer
-tokenAnswer s gate pages first53 first54 =
-    cond (not (eqb gate codes.done)) (record { token = Refused gate; session = s })
-    (cond (ltb first53 pages) (record { token = InTheWay codes.exportedDirtyPagesRemain first53; session = s })
-    (cond (ltb first54 pages) (record { token = InTheWay codes.unexportedMemoryRemains first54; session = s })
-    (record { token = Granted; session = withPhase s Done })))
+-- the case, told the code before 53, how many pages there are, and the lowest of them that give 53 and 54
+unfoldable pub tokenTold : ℕ → ℕ → ℕ → ℕ → Token
+tokenTold gate pages first53 first54 =
+    cond (not (eqb gate codes.done)) (Refused gate)
+    (cond (ltb first53 pages) (InTheWay codes.exportedDirtyPagesRemain first53)
+    (cond (ltb first54 pages) (InTheWay codes.unexportedMemoryRemains first54) Granted))
+
+-- and what it changes: Done where it is granted
+abbrev pub tokenChange : Token → Change
+tokenChange Granted = ToPhase Done
+tokenChange (Refused code) = Nothing
+tokenChange (InTheWay code page) = Nothing

@@ -2,12 +2,10 @@
 ghost use mathlib.Core.Path.{_≡_};
 ghost use mathlib.Core.Bool.{_&&_};
 ghost use mathlib.Core.List.{[]};
-ghost use Rattle.refusals.specs.Refusals.{firstOf};
 ghost use Rattle.session.specs.Session.{phasesOf};
 ghost use Rattle.session.specs.Formed.{gated};
-ghost use Rattle.session.specs.Outcome.{answerFor};
-ghost use Rattle.migration.specs.Migration.{sweepWhen, stopsAt, stopped, sweepTests, sweepNext, sweepAnswer, onAll};
-ghost use Rattle.migration.specs.Migration.{aloneWhen, aloneTests, aloneNext, aloneAnswer};
+ghost use Rattle.migration.specs.Migration.{sweepWhen, stopsAt, stopped, sweepVerdict, onAll};
+ghost use Rattle.migration.specs.Migration.{aloneWhen, aloneVerdict, aloneAnswer};
 use page::Clock;
 use page::queries::Sought;
 use page::sweeps::Sweep;
@@ -15,13 +13,17 @@ use session::Answer;
 use session::Phase;
 use session::Session;
 use session::When;
+use session::changes;
+use session::changes::Change;
+use session::changes::Verdict;
 use words::codes;
 
 pub mod token;
 
 // ---- the calls on every page
 
-fn sweep_when(k: Sweep) -> When
+// The phases in which it comes.
+pub fn sweep_when(k: Sweep) -> When
     ensures { λ r. ⌜ r ≡ sweepWhen k ⌝ }
 {
     match k {
@@ -30,13 +32,6 @@ fn sweep_when(k: Sweep) -> When
         Sweep::Pause => When::Live,
         Sweep::Abort => When::Moving,
     }
-}
-
-// What stands before any look at the table.
-pub fn sweep_gate(k: Sweep, s: Session, len: usize) -> u64
-    ensures { λ r. ⌜ r ≡ gated s len (phasesOf (sweepWhen k)) [] ⌝ }
-{
-    session::gate(s, len, sweep_when(k))
 }
 
 // What in the table stops a call: nothing, or a page of a kind.
@@ -73,64 +68,61 @@ fn is_stopped(asked: bool, table: &[u64], k: Stops) -> bool
     false
 }
 
-fn answer(code: u64, session: Session) -> Answer
-    ensures { λ r. ⌜ r ≡ record { code = code; session = session } ⌝ }
+// What a call comes to: `gate` is its gate's code, and with 0 `stops` says whether a page stops it.
+pub fn sweep_verdict(k: Sweep, gate: u64, clock: Clock, busy: bool, stops: bool) -> Verdict
+    ensures { λ r. ⌜ r ≡ sweepVerdict k gate clock busy stops ⌝ }
 {
-    Answer { code, session }
-}
-
-// What a call answers that has passed its gate; `stops` says whether a page stops it.
-fn sweep_passed(k: Sweep, s: Session, stops: bool) -> Answer
-    ensures { λ r. ⌜ r ≡ answerFor (firstOf (sweepTests k s stops)) s (sweepNext k s) ⌝ }
-{
+    if gate != codes::DONE {
+        return changes::refuse(gate);
+    }
     match k {
         Sweep::Track => {
-            if session::LAST_EPOCH <= s.clock.tlb {
-                return answer(codes::TLB_EPOCH_AT_LIMIT, s);
+            if session::LAST_EPOCH <= clock.tlb {
+                return changes::refuse(codes::TLB_EPOCH_AT_LIMIT);
             }
-            let tlb = s.clock.tlb + 1;
-            answer(codes::DONE, session::with_clock(s, Clock { tlb }))
+            let tlb = clock.tlb + 1;
+            changes::make(Change::ToClock {
+                clock: Clock { tlb },
+            })
         }
         Sweep::Start => {
             if stops {
-                return answer(codes::EPT_ENTRY_STATE_INCORRECT, s);
+                return changes::refuse(codes::EPT_ENTRY_STATE_INCORRECT);
             }
-            answer(codes::DONE, session::begin(s, Phase::Live, 1))
+            changes::make(Change::Begin {
+                phase: Phase::Live,
+                epoch: 1,
+            })
         }
         Sweep::Pause => {
-            let interrupted = session::is_busy(s);
             if stops {
-                return answer(codes::BLOCKED_MEMORY_EXISTS, s);
+                return changes::refuse(codes::BLOCKED_MEMORY_EXISTS);
             }
-            if interrupted {
-                return answer(codes::OPERAND_BUSY, s);
+            if busy {
+                return changes::refuse(codes::OPERAND_BUSY);
             }
-            answer(codes::DONE, session::with_phase(s, Phase::Blackout))
+            changes::make(Change::ToPhase {
+                phase: Phase::Blackout,
+            })
         }
-        Sweep::Abort => answer(codes::DONE, session::begin(s, Phase::Idle, 0)),
+        Sweep::Abort => changes::make(Change::Begin {
+            phase: Phase::Idle,
+            epoch: 0,
+        }),
     }
-}
-
-// What a call answers: `gate` is its gate's code, and with 0 `stops` says whether a page stops it.
-pub fn sweep_answer(k: Sweep, s: Session, gate: u64, stops: bool) -> Answer
-    ensures { λ r. ⌜ r ≡ sweepAnswer k s gate stops ⌝ }
-{
-    if gate != codes::DONE {
-        return answer(gate, s);
-    }
-    sweep_passed(k, s, stops)
 }
 
 pub fn on_all(k: Sweep, s: Session, table: &mut [u64]) -> Answer
     ensures { λ r. ⌜ r ≡ onAll k s (now (table .entry)) .answer ⌝ }
     ensures { λ _. ⌜ now (table .exit) ≡ onAll k s (now (table .entry)) .table ⌝ }
 {
-    let gate = sweep_gate(k, s, table.len());
+    let gate = session::gate(s, table.len(), sweep_when(k));
     let stops = is_stopped(gate == codes::DONE, &table[..], stops_at(k));
-    let made = sweep_answer(k, s, gate, stops);
-    let code = made.code;
-    let next = made.session;
-    session::finish(code, s, next, table, k)
+    let busy = session::is_busy(s);
+    let made = sweep_verdict(k, gate, s.clock, busy, stops);
+    let change = made.change;
+    let next = changes::changed(s, change);
+    session::finish(made.code, s, next, table, k)
 }
 
 // ---- the calls on the session alone, which ask of the table its length
@@ -140,7 +132,8 @@ pub enum Alone {
     Reset,
 }
 
-fn alone_when(k: Alone) -> When
+// The phases in which it comes.
+pub fn alone_when(k: Alone) -> When
     ensures { λ r. ⌜ r ≡ aloneWhen k ⌝ }
 {
     match k {
@@ -149,22 +142,27 @@ fn alone_when(k: Alone) -> When
     }
 }
 
-// What a call answers that has passed its gate.
-fn alone_passed(k: Alone, s: Session) -> Answer
-    ensures { λ r. ⌜ r ≡ answerFor (firstOf (aloneTests k s)) s (aloneNext k s) ⌝ }
+// What a call comes to: `gate` is its gate's code.
+pub fn alone_verdict(k: Alone, gate: u64, epoch: u64, busy: bool) -> Verdict
+    ensures { λ r. ⌜ r ≡ aloneVerdict k gate epoch busy ⌝ }
 {
+    if gate != codes::DONE {
+        return changes::refuse(gate);
+    }
     match k {
         Alone::NewEpoch => {
-            let busy = session::is_busy(s);
             if busy {
-                return answer(codes::OPERAND_BUSY, s);
+                return changes::refuse(codes::OPERAND_BUSY);
             }
-            if session::LAST_EPOCH <= s.epoch {
-                return answer(codes::MIGRATION_EPOCH_OVERFLOW, s);
+            if session::LAST_EPOCH <= epoch {
+                return changes::refuse(codes::MIGRATION_EPOCH_OVERFLOW);
             }
-            answer(codes::DONE, session::with_epoch(s, s.epoch + 1))
+            changes::make(Change::ToEpoch { epoch: epoch + 1 })
         }
-        Alone::Reset => answer(codes::DONE, session::reset_check(s)),
+        Alone::Reset => {
+            let check = changes::no_check();
+            changes::make(Change::ToCheck { check })
+        }
     }
 }
 
@@ -172,8 +170,12 @@ pub fn on_session(k: Alone, s: Session, len: usize) -> Answer
     ensures { λ r. ⌜ r ≡ aloneAnswer k s len ⌝ }
 {
     let gate = session::gate(s, len, alone_when(k));
-    if gate != codes::DONE {
-        return answer(gate, s);
+    let busy = session::is_busy(s);
+    let made = alone_verdict(k, gate, s.epoch, busy);
+    let change = made.change;
+    let session = changes::changed(s, change);
+    Answer {
+        code: made.code,
+        session,
     }
-    alone_passed(k, s)
 }

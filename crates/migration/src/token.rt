@@ -3,14 +3,14 @@ ghost use mathlib.Core.Path.{_≡_};
 ghost use mathlib.Core.Bool.{cond};
 ghost use Rattle.page.specs.Page.{sought};
 ghost use Rattle.table.specs.Table.{pageCount, lowest};
-ghost use Rattle.session.specs.Session.{phasesOf};
-ghost use Rattle.session.specs.Formed.{gated};
-ghost use Rattle.session.specs.declared.When.the-variants.{Blackout};
-ghost use Rattle.migration.specs.Token.{tokenSays, tokenGate, tokenCode, inTheWay, tokenOut, tokenAnswer};
+ghost use Rattle.session.specs.Formed.{behind};
+ghost use Rattle.migration.specs.Token.{tokenSays, tokenAsks, tokenCode, inTheWay, tokenOut, tokenTold, tokenChange};
 use page::queries::Sought;
 use session::Phase;
 use session::Session;
 use session::When;
+use session::changes;
+use session::changes::Change;
 use words::codes;
 
 pub enum Token {
@@ -47,58 +47,53 @@ pub fn page_of(k: Token) -> usize
     }
 }
 
-// What stands before any look at the table: the gate, 43 and 52.
-pub fn token_gate(s: Session, len: usize) -> u64
-    ensures { λ r. ⌜ r ≡ gated s len (phasesOf Blackout) (tokenGate s) ⌝ }
+// What stands before any look at the table: the gate, whose code is given, 43 and 52.
+pub fn token_gate(gate: u64, busy: bool, complete: bool) -> u64
+    ensures { λ r. ⌜ r ≡ behind gate (tokenAsks busy complete) ⌝ }
 {
-    let gate = session::gate(s, len, When::Blackout);
     if gate != codes::DONE {
         return gate;
     }
-    let busy = session::is_busy(s);
-    let unfinished = !s.check.complete;
     if busy {
         return codes::OPERAND_BUSY;
     }
-    if unfinished {
+    if !complete {
         return codes::MEM_SCAN_DCHECK_NOT_DONE;
     }
     codes::DONE
 }
 
-// What the token answers: `gate` is what stands before the table, and with 0 `first53` is the lowest page of `pages` that gives 53; where there is none,
-// `first54` the lowest that gives 54.
-pub fn token_answer(
-    s: Session,
-    gate: u64,
-    pages: usize,
-    first53: usize,
-    first54: usize,
-) -> TokenAnswer
-    ensures { λ r. ⌜ r ≡ tokenAnswer s gate pages first53 first54 ⌝ }
+// What the token is: `gate` is what stands before the table, and with 0 `first53` is the lowest page of `pages` that gives 53; where there is none, `first54`
+// the lowest that gives 54.
+pub fn token_of(gate: u64, pages: usize, first53: usize, first54: usize) -> Token
+    ensures { λ r. ⌜ r ≡ tokenTold gate pages first53 first54 ⌝ }
 {
     if gate != codes::DONE {
-        let token = Token::Refused { code: gate };
-        return TokenAnswer { token, session: s };
+        return Token::Refused { code: gate };
     }
     if first53 < pages {
-        let token = Token::InTheWay {
+        return Token::InTheWay {
             code: codes::EXPORTED_DIRTY_PAGES_REMAIN,
             page: first53,
         };
-        return TokenAnswer { token, session: s };
     }
     if first54 < pages {
-        let token = Token::InTheWay {
+        return Token::InTheWay {
             code: codes::UNEXPORTED_MEMORY_REMAINS,
             page: first54,
         };
-        return TokenAnswer { token, session: s };
     }
-    let session = session::with_phase(s, Phase::Done);
-    TokenAnswer {
-        token: Token::Granted,
-        session,
+    Token::Granted
+}
+
+// What it changes in the session.
+pub fn change_of(k: Token) -> Change
+    ensures { λ r. ⌜ r ≡ tokenChange k ⌝ }
+{
+    match k {
+        Token::Granted => Change::ToPhase { phase: Phase::Done },
+        Token::Refused { code: _ } => Change::Nothing,
+        Token::InTheWay { code: _, page: _ } => Change::Nothing,
     }
 }
 
@@ -121,12 +116,19 @@ pub fn start_token(s: Session, table: &[u64]) -> TokenAnswer
     } ⌝ }
 {
     let pages = table.len() / 2;
-    let gate = token_gate(s, table.len());
+    let busy = session::is_busy(s);
+    let gate = token_gate(
+        session::gate(s, table.len(), When::Blackout),
+        busy,
+        s.check.complete,
+    );
     let first53 = first(gate == codes::DONE, table, Sought::Gives53);
     let first54 = first(
         (gate == codes::DONE) & (pages <= first53),
         table,
         Sought::Gives54,
     );
-    token_answer(s, gate, pages, first53, first54)
+    let token = token_of(gate, pages, first53, first54);
+    let session = changes::changed(s, change_of(token));
+    TokenAnswer { token, session }
 }

@@ -11,9 +11,10 @@ use Rattle.refusals.proofs.Laws.{passed, and-right, not-false}
 use Rattle.page.specs.Page.{pageOf, blocked, onWords}
 use Rattle.page.specs.declared.PageWords.{PageWords}
 use Rattle.table.specs.Table.{mostPages, wordsAt, putAt}
+use Rattle.session.specs.Formed.{gated, behind}
 use Rattle.session.specs.declared.Phase.the-variants.{Live, Blackout}
 use Rattle.session.specs.declared.Session.{Session}
-use Rattle.session.proofs.Laws.{gate-open}
+use Rattle.session.proofs.Laws.{gate-first, gate-open}
 use Rattle.session.proofs.FormedLaws.{formed-means}
 use Rattle.scan.specs.Look.{listed, listedWord, listedPage, lookOf}
 use Rattle.scan.specs.Scan.{stopTests, stopCode, endCode, ScanOut, stop, scanRun, partOf, withinTable, dscanTests, dscanCode, dcheckTests, dcheckCode}
@@ -54,6 +55,17 @@ scan-ends n scan i put part list code h e =
 -- what a run leaves, one by one
 pub parts : {o o′ : ScanOut} → o ≡ o′ → (o .scanned ≡ o′ .scanned) × ((o .part ≡ o′ .part) × (o .list ≡ o′ .list))
 parts e = (ap (λ (x : ScanOut). x .scanned) e, (ap (λ (x : ScanOut). x .part) e, ap (λ (x : ScanOut). x .list) e))
+
+-- ---- the code, told that of the gate
+
+pub dscan-told : (s : Session) (len room first count gate : ℕ) → gate ≡ gated s len (Live ∷ []) [] →
+    behind gate (dscanTests s room first count) ≡ dscanCode s len room first count
+unfolding dscanCode
+dscan-told s len room first count gate e = rw (e, ← gate-first s len (Live ∷ []) (dscanTests s room first count))
+
+pub dcheck-told : (s : Session) (len room gate : ℕ) → gate ≡ gated s len (Blackout ∷ []) [] → behind gate (dcheckTests s room) ≡ dcheckCode s len room
+unfolding dcheckCode
+dcheck-told s len room gate e = rw (e, ← gate-first s len (Blackout ∷ []) (dcheckTests s room))
 
 -- ---- where a scan lies in the table
 

@@ -54,11 +54,11 @@ look-page w number clock r =
 -- it has the session and the code that it is given
 pub answer-session : (g : Scanned) (s : Session) → answerOf g s .session ≡ s
 unfolding answerOf
-answer-session g s = either (λ (a : ScanAnswer). a .session ≡ s) (eqb (g .put) 0) (λ e. refl) (λ e. refl)
+answer-session g s = refl
 
 pub answer-code : (g : Scanned) (s : Session) → answerOf g s .code ≡ g .code
 unfolding answerOf
-answer-code g s = either (λ (a : ScanAnswer). a .code ≡ g .code) (eqb (g .put) 0) (λ e. refl) (λ e. refl)
+answer-code g s = refl
 
 -- ---- its codes
 

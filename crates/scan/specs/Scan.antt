@@ -10,10 +10,12 @@ use Rattle.table.specs.Table.{wordsAt, putAt}
 use Rattle.session.specs.Session.{withCheck}
 use Rattle.session.specs.Formed.{gated, mostEntries, lastEntry}
 use Rattle.session.specs.declared.Phase.the-variants.{Live, Blackout}
+use Rattle.session.specs.declared.Check.{Check}
 use Rattle.session.specs.declared.Session.{Session}
 use Rattle.scan.specs.Look.{lookOf}
 use Rattle.scan.specs.declared.Scan.{Scan}
 use Rattle.scan.specs.declared.Scanned.{Scanned}
+use Rattle.scan.specs.declared.Written.{Written}
 use Rattle.scan.specs.declared.ScanAnswer.{ScanAnswer}
 
 -- ---- the run
@@ -72,20 +74,24 @@ rangeRun count scan t l =
 -- ---- the answer
 
 -- the first and last entries: 0 and count−1; 511 and 0 when empty
+unfoldable pub writtenOf : ℕ → Written
+writtenOf put = cond (eqb put 0) (record { first = lastEntry; last = 0 }) (record { first = 0; last = put - 1 })
+
 unfoldable pub answerOf : Scanned → Session → ScanAnswer
 answerOf g s =
-    cond (eqb (g .put) 0)
-    (record { code = g .code; next = g .next; first = lastEntry; last = 0; session = s })
-    (record { code = g .code; next = g .next; first = 0; last = g .put - 1; session = s })
+    let w = writtenOf (g .put) in
+    record { code = g .code; next = g .next; first = w .first; last = w .last; session = s }
 
 -- a refusal's answer is the code; all other numbers in it are 0
 abbrev pub refusedAnswer : ℕ → Session → ScanAnswer
 refusedAnswer code s = record { code = code; next = 0; first = 0; last = 0; session = s }
 
 -- the place becomes the next page; 3 is complete; 51 marks the check failed
+abbrev pub checkAfter : Scanned → Check
+checkAfter g = record { place = g .next; complete = eqb (g .code) codes.checkComplete; failed = eqb (g .code) codes.memScanFailedBlockedRange }
+
 unfoldable pub checkedBy : Session → Scanned → Session
-checkedBy s g =
-    withCheck s (record { place = g .next; complete = eqb (g .code) codes.checkComplete; failed = eqb (g .code) codes.memScanFailedBlockedRange })
+checkedBy s g = withCheck s (checkAfter g)
 
 pub record ScanOutcome : Type 0 where
   pub answer : ScanAnswer
@@ -105,9 +111,12 @@ unfoldable pub withinTable : ℕ → ℕ → ℕ → Bool
 withinTable first count pages = leb 1 count && leb (first + count) pages
 
 -- else 42; a list longer than 512 is 42
+abbrev pub dscanAsks : ℕ → ℕ → ℕ → ℕ → List Test
+dscanAsks pages room first count =
+    not (withinTable first count pages) gives codes.operandInvalid ∷ ltb mostEntries room gives codes.operandInvalid ∷ []
+
 abbrev pub dscanTests : Session → ℕ → ℕ → ℕ → List Test
-dscanTests s room first count =
-    not (withinTable first count (s .fixed .pages)) gives codes.operandInvalid ∷ ltb mostEntries room gives codes.operandInvalid ∷ []
+dscanTests s room first count = dscanAsks (s .fixed .pages) room first count
 
 unfoldable pub dscanCode : Session → ℕ → ℕ → ℕ → ℕ → ℕ
 dscanCode s len room first count = gated s len (Live ∷ []) (dscanTests s room first count)
@@ -123,9 +132,12 @@ dscanOut s t l first count budget =
 -- ---- DCHECK
 
 -- a list longer than 512 is 42; 50 if complete or failed
+abbrev pub dcheckAsks : Check → ℕ → List Test
+dcheckAsks check room =
+    ltb mostEntries room gives codes.operandInvalid ∷ (check .complete || check .failed) gives codes.memScanResetRequired ∷ []
+
 abbrev pub dcheckTests : Session → ℕ → List Test
-dcheckTests s room =
-    ltb mostEntries room gives codes.operandInvalid ∷ (s .check .complete || s .check .failed) gives codes.memScanResetRequired ∷ []
+dcheckTests s room = dcheckAsks (s .check) room
 
 unfoldable pub dcheckCode : Session → ℕ → ℕ → ℕ
 dcheckCode s len room = gated s len (Blackout ∷ []) (dcheckTests s room)

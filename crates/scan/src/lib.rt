@@ -6,14 +6,17 @@ ghost use lib.ListN.{length, set};
 ghost use Rattle.page.specs.Page.{pageOf, onWords};
 ghost use Rattle.table.specs.Table.{mostPages, putAt};
 ghost use Rattle.scan.specs.Look.{listedWord, listedPage};
-ghost use Rattle.scan.specs.Scan.{stopCode, endCode, scanRun, rangeRun, answerOf, refusedAnswer, checkedBy};
-ghost use Rattle.scan.specs.Scan.{withinTable, dscanCode, dscanOut, dcheckCode, dcheckOut};
+ghost use Rattle.session.specs.Formed.{behind};
+ghost use Rattle.scan.specs.Scan.{stopCode, endCode, scanRun, rangeRun, writtenOf, answerOf, refusedAnswer, checkAfter};
+ghost use Rattle.scan.specs.Scan.{withinTable, dscanAsks, dscanOut, dcheckAsks, dcheckOut};
 use page::Clock;
 use page::PageWords;
 use page::queries;
 use session::Check;
 use session::Session;
 use session::When;
+use session::changes;
+use session::changes::Change;
 use session::streams;
 use words::codes;
 
@@ -160,25 +163,37 @@ fn scan_range(table: &mut [u64], list: &mut [u64], count: usize, scan: Scan) -> 
 
 // ---- the answer
 
-// First and last entry are 0 and count−1; 511 and 0 where a scan ran and listed nothing.
+// The first and the last entry of a list.
+pub struct Written {
+    pub first: u64,
+    pub last: u64,
+}
+
+// 0 and count−1; 511 and 0 where a scan ran and listed nothing.
+pub fn written_of(put: usize) -> Written
+    ensures { λ r. ⌜ r ≡ writtenOf put ⌝ }
+{
+    if put == 0 {
+        return Written {
+            first: streams::LAST_ENTRY,
+            last: 0,
+        };
+    }
+    Written {
+        first: 0,
+        last: put as u64 - 1,
+    }
+}
+
 fn answer(got: Scanned, session: Session) -> ScanAnswer
     ensures { λ r. ⌜ r ≡ answerOf got session ⌝ }
 {
-    let put = got.put;
-    if put == 0 {
-        return ScanAnswer {
-            code: got.code,
-            next: got.next,
-            first: streams::LAST_ENTRY,
-            last: 0,
-            session,
-        };
-    }
+    let w = written_of(got.put);
     ScanAnswer {
         code: got.code,
         next: got.next,
-        first: 0,
-        last: put as u64 - 1,
+        first: w.first,
+        last: w.last,
         session,
     }
 }
@@ -207,11 +222,11 @@ fn is_within(first: usize, count: usize, pages: usize) -> bool
     (1 <= count) & (count <= pages - first)
 }
 
-fn dscan_code(s: Session, len: usize, room: usize, first: usize, count: usize) -> u64
-    ensures { λ r. ⌜ r ≡ dscanCode s len room first count ⌝ }
+// `gate` is the code of what stands before.
+pub fn dscan_code(gate: u64, pages: usize, room: usize, first: usize, count: usize) -> u64
+    ensures { λ r. ⌜ r ≡ behind gate (dscanAsks pages room first count) ⌝ }
 {
-    let gate = session::gate(s, len, When::Live);
-    let within = is_within(first, count, s.fixed.pages);
+    let within = is_within(first, count, pages);
     let long = streams::MOST_ENTRIES < room;
     if gate != codes::DONE {
         return gate;
@@ -239,7 +254,8 @@ pub fn dscan(
     ensures { λ _. ⌜ now (list .exit) ≡ dscanOut s (now (table .entry)) (now (list .entry)) first count budget .list ⌝ }
 {
     let clock = s.clock;
-    let code = dscan_code(s, table.len(), list.len(), first, count);
+    let gate = session::gate(s, table.len(), When::Live);
+    let code = dscan_code(gate, s.fixed.pages, list.len(), first, count);
     if code != codes::DONE {
         return refuse(code, s);
     }
@@ -259,12 +275,12 @@ pub fn dscan(
 
 // ---- DCHECK
 
-fn dcheck_code(s: Session, len: usize, room: usize) -> u64
-    ensures { λ r. ⌜ r ≡ dcheckCode s len room ⌝ }
+// `gate` is the code of what stands before.
+pub fn dcheck_code(gate: u64, check: Check, room: usize) -> u64
+    ensures { λ r. ⌜ r ≡ behind gate (dcheckAsks check room) ⌝ }
 {
-    let gate = session::gate(s, len, When::Blackout);
     let long = streams::MOST_ENTRIES < room;
-    let over = s.check.complete | s.check.failed;
+    let over = check.complete | check.failed;
     if gate != codes::DONE {
         return gate;
     }
@@ -277,19 +293,16 @@ fn dcheck_code(s: Session, len: usize, room: usize) -> u64
     codes::DONE
 }
 
-// The session with the check where the scan ended.
-fn check_at(s: Session, got: Scanned) -> Session
-    ensures { λ r. ⌜ r ≡ checkedBy s got ⌝ }
+// The check where the scan ended.
+pub fn check_after(got: Scanned) -> Check
+    ensures { λ r. ⌜ r ≡ checkAfter got ⌝ }
 {
     let code = got.code;
-    session::with_check(
-        s,
-        Check {
-            place: got.next,
-            complete: code == codes::CHECK_COMPLETE,
-            failed: code == codes::MEM_SCAN_FAILED_BLOCKED_RANGE,
-        },
-    )
+    Check {
+        place: got.next,
+        complete: code == codes::CHECK_COMPLETE,
+        failed: code == codes::MEM_SCAN_FAILED_BLOCKED_RANGE,
+    }
 }
 
 // Goes on from the session's place.
@@ -299,7 +312,9 @@ pub fn dcheck(s: Session, table: &mut [u64], list: &mut [u64], budget: usize) ->
     ensures { λ _. ⌜ now (list .exit) ≡ dcheckOut s (now (table .entry)) (now (list .entry)) budget .list ⌝ }
 {
     let clock = s.clock;
-    let code = dcheck_code(s, table.len(), list.len());
+    let gate = session::gate(s, table.len(), When::Blackout);
+    let check = s.check;
+    let code = dcheck_code(gate, check, list.len());
     if code != codes::DONE {
         return refuse(code, s);
     }
@@ -315,6 +330,7 @@ pub fn dcheck(s: Session, table: &mut [u64], list: &mut [u64], budget: usize) ->
             checking: true,
         },
     );
-    let session = check_at(s, got);
+    let after = check_after(got);
+    let session = changes::changed(s, Change::ToCheck { check: after });
     answer(got, session)
 }

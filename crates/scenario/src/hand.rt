@@ -3,6 +3,8 @@ use crate::lines::Line;
 use crate::names;
 use session::Phase;
 use session::Session;
+use session::changes;
+use session::changes::Change;
 use session::streams;
 use session::streams::Work;
 
@@ -29,7 +31,10 @@ pub(crate) fn changed(mut s: Session, l: Line) -> Session {
     let v = l.first;
     let on = v != 0;
     match name {
-        names::PHASE => return session::with_phase(s, phase_of(v)),
+        names::PHASE => {
+            let phase = phase_of(v);
+            return changes::changed(s, Change::ToPhase { phase });
+        }
         names::PAGES => s.fixed.pages = v as usize,
         names::TLB => s.clock.tlb = v,
         names::EPOCH => s.epoch = v,

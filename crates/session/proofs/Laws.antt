@@ -8,12 +8,14 @@ use lib.Dec.{eqb, ltb}
 use borrow.Author.Tests.{ltb-true, eqb-true, ne-eqb}
 use Rattle.refusals.specs.Refusals.{Test, firstOf}
 use Rattle.refusals.proofs.Laws.{and-left, and-right, not-false, Passed, coded, passed, passed-code, Ends, once, ended}
-use Rattle.session.specs.Session.{among}
-use Rattle.session.specs.Formed.{formed, gateTests, gated, behind}
-use Rattle.session.specs.Outcome.{Outcome, outcome, answered}
+use Rattle.session.specs.Session.{among, changedBy}
+use Rattle.session.specs.Formed.{formed, phaseTests, gateTests, gated, behind}
+use Rattle.session.specs.Outcome.{Outcome, outcome, verdictFor, answered}
 use Rattle.session.specs.declared.Phase.{Phase}
 use Rattle.session.specs.declared.Session.{Session}
 use Rattle.session.specs.declared.Answer.{Answer}
+use Rattle.session.specs.declared.changes.Change.{Change}
+use Rattle.session.specs.declared.changes.Change.the-variants.{Nothing}
 
 pub below-next : (a b : ℕ) → a ≤ b → a ≤ b + 1
 below-next a b h = omega arith
@@ -32,6 +34,12 @@ pub gate-first : (s : Session) (len : ℕ) (phases : List Phase) (l : List Test)
 unfolding gated
 gate-first s len phases l = first-then (gateTests s len phases []) l refl
 
+-- behind 40 the gate asks for the phase alone
+pub gate-formed : (s : Session) (len : ℕ) (phases : List Phase) (l : List Test) → formed s len ≡ true →
+    gated s len phases l ≡ firstOf (phaseTests (s .phase) phases l)
+unfolding gated
+gate-formed s len phases l f = rw f
+
 -- a call that is told its gate's code, and with 0 what its own tests give
 pub behind-gate : (s : Session) (len : ℕ) (phases : List Phase) (l m : List Test) (gate : ℕ) → gate ≡ gated s len phases [] →
     (gate ≡ 0 → firstOf l ≡ firstOf m) → behind gate l ≡ gated s len phases m
@@ -40,6 +48,26 @@ behind-gate s len phases l m gate e same = rw (gate-first s len phases m, ← e)
     go : (b : Bool) → eqb gate 0 ≡ b → cond b (firstOf l) gate ≡ cond b (firstOf m) gate
     go true q = same (eqb-true gate 0 q)
     go false q = refl
+
+-- a change that is made only with code 0 is that of the answer
+pub verdict-answered : (code : ℕ) (change : Change) (s : Session) (t t' : List ℕ) →
+    answered code s t (changedBy (verdictFor code change .change) s) t' ≡ answered code s t (changedBy change s) t'
+unfolding answered
+verdict-answered code change s t t' = go (eqb code 0)
+  where
+    go : (b : Bool) → _≡_ {A = Outcome}
+        (record { answer = record { code = code; session = cond b (changedBy (cond b change Nothing) s) s }; table = cond b t' t })
+        (record { answer = record { code = code; session = cond b (changedBy change s) s }; table = cond b t' t })
+    go true = refl
+    go false = refl
+
+-- and with any code the session is the answer's
+pub verdict-session : (code : ℕ) (change : Change) (s : Session) → changedBy (verdictFor code change .change) s ≡ cond (eqb code 0) (changedBy change s) s
+verdict-session code change s = go (eqb code 0)
+  where
+    go : (b : Bool) → changedBy (cond b change Nothing) s ≡ cond b (changedBy change s) s
+    go true = refl
+    go false = refl
 
 -- what holds of the outcome that a call makes and of the one that gives back what came holds of its answer
 pub answered-either : (P : Outcome → Type 0) (code : ℕ) (s : Session) (t : List ℕ) (s' : Session) (t' : List ℕ) → (eqb code 0 ≡ true → P (outcome code s' t')) →

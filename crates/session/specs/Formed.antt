@@ -49,8 +49,11 @@ workInRange AtRest = true
 workInRange (Interrupted next last errors filled) = leb next last && leb last lastEntry && leb errors next && leb filled next
 
 -- index below N−1 is usable
+abbrev pub usableOf : ℕ → ℕ → Bool
+usableOf created i = ltb (i + 1) created
+
 abbrev pub usable : Session → ℕ → Bool
-usable s i = ltb (i + 1) (s .fixed .created)
+usable s i = usableOf (s .fixed .created) i
 
 -- f holds at some number below n
 abbrev pub someBelow : (ℕ → Bool) → ℕ → Bool
@@ -103,10 +106,13 @@ malformedCases s len =
 unfoldable pub formed : Session → ℕ → Bool
 formed s len = not (someOf (malformedCases s len))
 
--- a call that comes in some phases and then has tests of its own: 40, 41, and these
+-- a call that comes in some phases and then has tests of its own: 41, and these
+abbrev pub phaseTests : Phase → List Phase → List Test → List Test
+phaseTests phase phases tests = not (among phases phase) gives codes.opStateIncorrect ∷ tests
+
+-- and 40 before them
 abbrev pub gateTests : Session → ℕ → List Phase → List Test → List Test
-gateTests s len phases tests =
-    not (formed s len) gives codes.malformed ∷ not (among phases (s .phase)) gives codes.opStateIncorrect ∷ tests
+gateTests s len phases tests = not (formed s len) gives codes.malformed ∷ phaseTests (s .phase) phases tests
 
 unfoldable pub gated : Session → ℕ → List Phase → List Test → ℕ
 gated s len phases tests = firstOf (gateTests s len phases tests)

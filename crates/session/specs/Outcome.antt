@@ -7,6 +7,9 @@ use Rattle.page.specs.Page.{Page, onWords}
 use Rattle.table.specs.Table.{sweepOf}
 use Rattle.session.specs.declared.Session.{Session}
 use Rattle.session.specs.declared.Answer.{Answer}
+use Rattle.session.specs.declared.changes.Change.{Change}
+use Rattle.session.specs.declared.changes.Change.the-variants.{Nothing}
+use Rattle.session.specs.declared.changes.Verdict.{Verdict}
 
 pub record Outcome : Type 0 where
   pub answer : Answer
@@ -18,6 +21,10 @@ outcome code s t = record { answer = record { code = code; session = s }; table 
 -- with code 0 the session that the call makes; with any other, the one that came
 abbrev pub answerFor : ℕ → Session → Session → Answer
 answerFor code s s' = record { code = code; session = cond (eqb code 0) s' s }
+
+-- the same as a change: with any other code, none
+abbrev pub verdictFor : ℕ → Change → Verdict
+verdictFor code change = record { code = code; change = cond (eqb code 0) change Nothing }
 
 -- and so the table
 unfoldable pub answered : ℕ → Session → List ℕ → Session → List ℕ → Outcome

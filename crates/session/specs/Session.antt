@@ -12,6 +12,8 @@ use Rattle.session.specs.declared.Session.{Session}
 use Rattle.session.specs.declared.Comes.{Comes}
 use Rattle.session.specs.declared.When.{When}
 use Rattle.session.specs.declared.When.the-variants as when
+use Rattle.session.specs.declared.changes.Change.{Change}
+use Rattle.session.specs.declared.changes.Change.the-variants.{Nothing, ToPhase, ToEpoch, ToClock, ToCheck, Begin, ToWork}
 use Rattle.session.specs.declared.streams.Stream.{Stream}
 use Rattle.session.specs.declared.streams.Work.{Work}
 use Rattle.session.specs.declared.streams.Work.the-variants.{AtRest}
@@ -104,3 +106,13 @@ workOf s i = cond (ltb i streamPlaces) (workAt s i) AtRest
 
 unfoldable pub withWork : Session → ℕ → Work → Session
 withWork s i work = cond (ltb i streamPlaces) (withStreams s (set (s .streams) i (record { work = work }))) s
+
+-- what a call changes in its session
+abbrev pub changedBy : Change → Session → Session
+changedBy Nothing s = s
+changedBy (ToPhase phase) s = withPhase s phase
+changedBy (ToEpoch epoch) s = withEpoch s epoch
+changedBy (ToClock clock) s = withClock s clock
+changedBy (ToCheck check) s = withCheck s check
+changedBy (Begin phase epoch) s = begun s phase epoch
+changedBy (ToWork stream work) s = withWork s stream work

@@ -1,11 +1,13 @@
 // The session: what a bench knows beside its table, when it is well-formed, and the gate that every call but New passes first.
 ghost use mathlib.Core.Path.{_≡_};
 ghost use mathlib.Core.List.{[]};
-ghost use Rattle.session.specs.Session.{among, phasesOf, comesIn, unchecked, withPhase, withEpoch, withClock, withCheck, begun, newSession};
+ghost use Rattle.refusals.specs.Refusals.{firstOf};
+ghost use Rattle.session.specs.Session.{among, phasesOf, comesIn, newSession};
 ghost use Rattle.page.specs.Sweeps.{sweptBy};
 ghost use Rattle.session.specs.Outcome.{answeredBy};
-ghost use Rattle.session.specs.Formed.{epochIn, formed, gated, busy};
+ghost use Rattle.session.specs.Formed.{epochIn, formed, phaseTests, gated, busy};
 
+pub mod changes;
 pub mod streams;
 
 use crate::streams::STREAM_PLACES;
@@ -164,20 +166,28 @@ fn is_in(w: When, p: Phase) -> bool
     }
 }
 
-// 40; 41 if the call does not come in this phase; else 0.
+// 41 if the call does not come in this phase; else 0.
+pub fn phase_code(p: Phase, w: When) -> u64
+    ensures { λ r. ⌜ r ≡ firstOf (phaseTests p (phasesOf w) []) ⌝ }
+{
+    let comes = is_in(w, p);
+    if !comes {
+        return codes::OP_STATE_INCORRECT;
+    }
+    codes::DONE
+}
+
+// 40, and then 41.
 pub fn gate(s: Session, len: usize, w: When) -> u64
     ensures { λ r. ⌜ r ≡ gated s len (phasesOf w) [] ⌝ }
 {
     let p = s.phase;
     let formed = is_formed(s, len);
-    let comes = is_in(w, p);
+    let code = phase_code(p, w);
     if !formed {
         return codes::MALFORMED;
     }
-    if !comes {
-        return codes::OP_STATE_INCORRECT;
-    }
-    codes::DONE
+    code
 }
 
 // Some stream is interrupted.
@@ -188,24 +198,11 @@ pub fn is_busy(s: Session) -> bool
     found.any
 }
 
-// ---- sessions made from others
-
-// A check that has not begun.
-fn no_check() -> Check
-    ensures { λ r. ⌜ r ≡ unchecked ⌝ }
-{
-    Check {
-        place: 0,
-        complete: false,
-        failed: false,
-    }
-}
-
 // What New makes.
 pub fn new_session(pages: usize, created: u64) -> Session
     ensures { λ r. ⌜ r ≡ newSession pages created ⌝ }
 {
-    let check = no_check();
+    let check = changes::no_check();
     let streams = streams::at_rest();
     Session {
         phase: Phase::Idle,
@@ -215,67 +212,6 @@ pub fn new_session(pages: usize, created: u64) -> Session
         check,
         streams,
     }
-}
-
-// Where a migration begins, and where one that is given up ends: with no check and with streams at rest.
-pub fn begin(s: Session, phase: Phase, epoch: u64) -> Session
-    ensures { λ r. ⌜ r ≡ begun s phase epoch ⌝ }
-{
-    let check = no_check();
-    let streams = streams::at_rest();
-    let mut next = with_phase(s, phase);
-    next.epoch = epoch;
-    next.check = check;
-    next.streams = streams;
-    next
-}
-
-pub fn with_phase(s: Session, phase: Phase) -> Session
-    ensures { λ r. ⌜ r ≡ withPhase s phase ⌝ }
-{
-    let fixed = s.fixed;
-    let clock = s.clock;
-    let check = s.check;
-    let streams = s.streams;
-    Session {
-        phase, // a field that is an enum cannot be set by itself
-        epoch: s.epoch,
-        fixed,
-        clock,
-        check,
-        streams,
-    }
-}
-
-pub fn with_clock(s: Session, clock: Clock) -> Session
-    ensures { λ r. ⌜ r ≡ withClock s clock ⌝ }
-{
-    let mut next = s;
-    next.clock = clock;
-    next
-}
-
-pub fn with_epoch(s: Session, epoch: u64) -> Session
-    ensures { λ r. ⌜ r ≡ withEpoch s epoch ⌝ }
-{
-    let mut next = s;
-    next.epoch = epoch;
-    next
-}
-
-pub fn with_check(s: Session, check: Check) -> Session
-    ensures { λ r. ⌜ r ≡ withCheck s check ⌝ }
-{
-    let mut next = s;
-    next.check = check;
-    next
-}
-
-// The check begins anew.
-pub fn reset_check(s: Session) -> Session
-    ensures { λ r. ⌜ r ≡ withCheck s unchecked ⌝ }
-{
-    with_check(s, no_check())
 }
 
 // ---- the end of a call

@@ -1,7 +1,7 @@
 // The migration streams of a session: eight places, whatever the number of created ones.
 ghost use mathlib.Core.Path.{_≡_};
 ghost use Rattle.session.specs.Session.{atRest, workOf, withWork};
-ghost use Rattle.session.specs.Formed.{workResting, workInRange, usable, someStream, outOfRange, outOfPlace, busy};
+ghost use Rattle.session.specs.Formed.{workResting, workInRange, usableOf, someStream, outOfRange, outOfPlace, busy};
 use crate::Session;
 
 // What a stream is doing. An interrupted export has taken the entries before `next`, of 0 to `last`.
@@ -58,13 +58,13 @@ pub fn with_work(s: Session, at: u64, work: Work) -> Session
 }
 
 // An index below N−1 is usable (000, 3.1.3.1).
-pub fn is_usable(s: Session, at: u64) -> bool
-    ensures { λ r. ⌜ r ≡ usable s at ⌝ }
+pub fn is_usable(created: u64, at: u64) -> bool
+    ensures { λ r. ⌜ r ≡ usableOf created at ⌝ }
 {
-    if s.fixed.created <= at {
+    if created <= at {
         return false;
     }
-    at + 1 < s.fixed.created
+    at + 1 < created
 }
 
 // Whether a stream is at rest.
@@ -117,7 +117,7 @@ pub fn find_interrupted(s: Session) -> Found
         let work = stream.work;
         let resting = is_resting(work);
         let in_range = is_in_range(work);
-        let usable = is_usable(s, i as u64);
+        let usable = is_usable(s.fixed.created, i as u64);
         any = any | !resting;
         outside = outside | !in_range;
         unusable = unusable | (!resting & !usable);

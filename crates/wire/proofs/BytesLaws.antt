@@ -10,10 +10,10 @@ use native.Mathlib.Numerals.{add-one}
 use native.Mathlib.Nat.{eq-or-lt-of-le, le-of-suc-le-suc, add-assoc, add-zero}
 use lib.Dec.{ltb}
 use lib.ListN.{length, getD, set, take, drop, replicate, length-append, length-drop, length-set, List·getD-append}
-use lib.Seq.{sets-eq, ext-getD, getD-at, getD-drop, take-suc, take-add, take-all}
+use lib.Seq.{ext-getD, getD-at, getD-drop, take-suc, take-add, take-all, set-getD}
 use borrow.Author.Tests.{ltb-true}
 use Rattle.page.specs.declared.PageWords.{PageWords}
-use Rattle.table.specs.Table.{pageCount, putAt}
+use Rattle.table.specs.Table.{pageCount, wordsAt, putAt}
 use Rattle.wire.specs.Bytes.{halfAt, wordAt, halfBytes, wordBytes, putWord, upTo, wordsOf, bytesOf, Bytes, Words}
 use Rattle.wire.specs.Tables.{putPage}
 
@@ -47,11 +47,6 @@ bytes-length (x ∷ l) = omega (arith, bytes-length l)
 pub bytes-append : (v w : List ℕ) → bytesOf (v ++ w) ≡ bytesOf v ++ bytesOf w
 bytes-append [] w = refl
 bytes-append (x ∷ v) w = ap (λ (r : List ℕ). wordBytes x ++ r) (bytes-append v w)
-
--- a word that is put, as a cut and a paste
-pub put-word : (b : List ℕ) (at x : ℕ) → at + 8 ≤ length b → putWord b at x ≡ take at b ++ wordBytes x ++ drop (at + 8) b
-unfolding putWord
-put-word b at x h = sets-eq (wordBytes x) b at h
 
 -- ---- reading what was written
 
@@ -140,7 +135,7 @@ bytes-back b y h = words-front b (length b / 8) y (omega arith) ∙ take-all (8 
 
 -- ---- a word put among bytes, a page put among bytes, and zeros
 
-eight-more : (n : ℕ) → 8 * suc n ≡ suc (suc (suc (suc (suc (suc (suc (suc (8 * n))))))))
+pub eight-more : (n : ℕ) → 8 * suc n ≡ suc (suc (suc (suc (suc (suc (suc (suc (8 * n))))))))
 eight-more n = omega arith
 
 pub put-bytes : (w : List ℕ) (i x : ℕ) → i < length w → putWord (bytesOf w) (8 * i) x ≡ bytesOf (set w i x)
@@ -172,6 +167,20 @@ page-bytes b i w y h =
         ∙ put-two (wordsOf b) i (w .word) (w .mark) (rw (words-length b) (omega arith))
     go false q = sym (bytes-back b y h)
 
+-- a page's own words, put again, leave the bytes
+put-again : (t : List ℕ) (i : ℕ) → putAt t i (wordsAt t i) ≡ t
+unfolding putAt wordsAt
+put-again t i = go (ltb i (pageCount t))
+  where
+    go : (c : Bool) →
+        let w : PageWords = cond c (record { word = getD t (2 * i) 0; mark = getD t (2 * i + 1) 0 }) (record { word = 0; mark = 0 }) in
+        cond c (set (set t (2 * i) (w .word)) (2 * i + 1) (w .mark)) t ≡ t
+    go true = rw (set-getD t (2 * i) 0, set-getD t (2 * i + 1) 0)
+    go false = refl
+
+pub page-again : (b : List ℕ) (i : ℕ) → Bytes b → length b % 8 ≡ 0 → putPage b i (wordsAt (wordsOf b) i) ≡ b
+page-again b i y h = page-bytes b i (wordsAt (wordsOf b) i) y h ∙ ap bytesOf (put-again (wordsOf b) i) ∙ bytes-back b y h
+
 -- ---- what is put into words stays words, so that a page that was put is read
 
 words-more : (v : List ℕ) (x : ℕ) → Words v → x < 0x10000000000000000 → Words (v ++ (x ∷ []))
@@ -180,7 +189,7 @@ words-more [] x h k (suc i) = h i
 words-more (y ∷ l) x h k zero = h 0
 words-more (y ∷ l) x h k (suc i) = words-more l x (λ j. h (suc j)) k i
 
-words-set : (v : List ℕ) (i x : ℕ) → Words v → x < 0x10000000000000000 → Words (set v i x)
+pub words-set : (v : List ℕ) (i x : ℕ) → Words v → x < 0x10000000000000000 → Words (set v i x)
 words-set [] i x h k j = h j
 words-set (y ∷ l) zero x h k zero = k
 words-set (y ∷ l) zero x h k (suc j) = h (suc j)
@@ -198,11 +207,11 @@ word-small b at y =
     let high : halfAt b (at + 4) < 0x100000000 = omega (arith, y (at + 4), y (at + 4 + 1), y (at + 4 + 2), y (at + 4 + 3)) in
     omega arith
 
-words-small : (b : List ℕ) → Bytes b → Words (wordsOf b)
+pub words-small : (b : List ℕ) → Bytes b → Words (wordsOf b)
 unfolding wordsOf
 words-small b y = up-words (λ i. wordAt b (8 * i)) (length b / 8) (λ i. word-small b (8 * i) y)
 
-put-small : (t : List ℕ) (i : ℕ) (w : PageWords) → Words t → w .word < 0x10000000000000000 → w .mark < 0x10000000000000000 → Words (putAt t i w)
+pub put-small : (t : List ℕ) (i : ℕ) (w : PageWords) → Words t → w .word < 0x10000000000000000 → w .mark < 0x10000000000000000 → Words (putAt t i w)
 unfolding putAt
 put-small t i w h k m = go (ltb i (length t / 2))
   where

@@ -1,3 +1,5 @@
 pub mod BytesLaws
 pub mod SessionLaws
+pub mod FormedInPlace
+pub mod ChangeLaws
 pub mod Promises

@@ -25,7 +25,7 @@ reads-back = record {
   formed = formed-numbers;
 }
 
-zeros-bytes : (n : ℕ) → Bytes (replicate n 0)
+pub zeros-bytes : (n : ℕ) → Bytes (replicate n 0)
 zeros-bytes zero i = lit< tt
 zeros-bytes (suc n) zero = lit< tt
 zeros-bytes (suc n) (suc i) = zeros-bytes n i

@@ -7,8 +7,8 @@ use Prim.Native.Nat.{ℕ, zero, suc, _+_, _*_, _≤_, _<_}
 use native.Mathlib.Omega.{arith}
 use native.Mathlib.Nat.{add-zero, zero-add}
 use lib.Dec.{eqb, ltb, leb, lit<}
-use lib.ListN.{length, getD, take, drop, take-append-drop, length-drop, drop-of-length-le}
-use lib.Seq.{drop-cons, drop-drop, getD-drop, take-add, take-all, ext-getD, sets, sets-eq}
+use lib.ListN.{length, getD, take, drop, take-append-drop, length-drop}
+use lib.Seq.{drop-cons, drop-drop, getD-drop, take-add, take-all, ext-getD}
 use borrow.Author.Tests.{leb-true, eqb-true, ltb-true, lt-ltb}
 use Rattle.refusals.proofs.Laws.{and-left, and-right, either, not-true, not-false}
 use Rattle.session.specs.Session.{phaseNumber, among, streamPlaces, resting, workAt, workOf}
@@ -22,9 +22,9 @@ use Rattle.session.specs.declared.streams.Work.the-variants.{AtRest, Interrupte
 use Rattle.session.specs.declared.streams.Stream.{Stream}
 use Rattle.session.proofs.FormedLaws.{every-hold, hold-every, none-below, below-none, WorkFormed, Formed, formed-means, idle-is}
 use Rattle.wire.specs.Bytes.{upTo, Words}
-use Rattle.wire.specs.Sessions.{sessionLength, phaseOf, ownFits, ownWords, bitOf, checkFits, checkOf, checkWords}
-use Rattle.wire.specs.Sessions.{streamPlace, streamFits, streamsFit, streamAt, streamsOf, workWords, five, streamsFrom, fits, sessionOf, sessionWords}
-use Rattle.wire.specs.declared.sessions.StreamWords.{StreamWords}
+use Rattle.wire.specs.Sessions.{sessionLength, phaseOf, ownFits, ownWords, bitOf, checkFits, checkOf, checkWords, fits, sessionOf, sessionWords}
+use Rattle.wire.specs.Sessions.{streamPlace, streamFits, streamsFit, streamAt, streamsOf, fiveAt, workWords, five, streamsFrom}
+use Rattle.wire.specs.declared.streams.StreamWords.{StreamWords}
 use Rattle.wire.specs.Promises.{Word, WorkNumbers, Numbers}
 use Rattle.wire.proofs.BytesLaws.{up-length, up-at}
 
@@ -42,20 +42,6 @@ take-from w at (suc n) h = rw (drop-cons w at 0 (omega arith)) (ap (λ (r : List
 -- a part and what is behind it
 part-then : (w : List ℕ) (at n : ℕ) → take n (drop at w) ++ drop (at + n) w ≡ drop at w
 part-then w at n = rw (← drop-drop n at w) (take-append-drop n (drop at w))
-
--- words put one behind the other
-pub sets-then : (l xs ys : List ℕ) (at n : ℕ) → at + length xs ≡ n → sets (sets l at xs) n ys ≡ sets l at (xs ++ ys)
-sets-then l [] ys at n e = ap (λ (k : ℕ). sets l k ys) (sym e ∙ add-zero at)
-sets-then l (x ∷ xs) ys at n e = sets-then _ xs ys (suc at) n (omega arith)
-
-pub sets-all : (l vs : List ℕ) → length l ≡ length vs → sets l 0 vs ≡ vs
-sets-all l vs e =
-    let whole : length l ≤ 0 + length vs = omega arith in
-    sets-eq vs l 0 (omega arith) ∙ ap (λ (r : List ℕ). vs ++ r) (drop-of-length-le l whole) ∙ ends vs
-  where
-    ends : (r : List ℕ) → r ++ [] ≡ r
-    ends [] = refl
-    ends (x ∷ r) = ap (λ (q : List ℕ). x ∷ q) (ends r)
 
 -- ---- its own numbers
 
@@ -107,13 +93,13 @@ check-again w h f =
 
 -- ---- a stream: five words, what they mean, and whether they fit
 
-abbrev fiveOf : List ℕ → StreamWords
+abbrev pub fiveOf : List ℕ → StreamWords
 fiveOf l = record { flag = getD l 0 0; next = getD l 1 0; last = getD l 2 0; errors = getD l 3 0; filled = getD l 4 0 }
 
-abbrev meant : StreamWords → Stream
+abbrev pub meant : StreamWords → Stream
 meant x = record { work = cond (eqb (x .flag) 0) AtRest (Interrupted (x .next) (x .last) (x .errors) (x .filled)) }
 
-abbrev fit : StreamWords → Bool
+abbrev pub fit : StreamWords → Bool
 fit x = eqb (x .flag) 1 || eqb (x .flag) 0 && (eqb (x .next) 0 && eqb (x .last) 0 && eqb (x .errors) 0 && eqb (x .filled) 0)
 
 work-back : (r : Work) → meant (workWords r) ≡ record { work = r }
@@ -144,17 +130,11 @@ work-again x = go (x .flag) (x .next) (x .last) (x .errors) (x .filled)
 
 -- ---- the streams, five words a step
 
-five-more : (k : ℕ) → 5 * suc k ≡ suc (suc (suc (suc (suc (5 * k)))))
+pub five-more : (k : ℕ) → 5 * suc k ≡ suc (suc (suc (suc (suc (5 * k)))))
 five-more k = omega arith
 
 -- the words at a place are those of what begins there
-words-at : (w : List ℕ) (at : ℕ) → fiveOf (drop at w) ≡ record {
-  flag = getD w at 0;
-  next = getD w (at + 1) 0;
-  last = getD w (at + 2) 0;
-  errors = getD w (at + 3) 0;
-  filled = getD w (at + 4) 0;
-}
+words-at : (w : List ℕ) (at : ℕ) → fiveOf (drop at w) ≡ fiveAt w at
 words-at w at = rw (getD-drop at w 0 0, getD-drop at w 1 0, getD-drop at w 2 0, getD-drop at w 3 0, getD-drop at w 4 0, add-zero at)
 
 five-of : (l : List ℕ) → 5 ≤ length l → five (fiveOf l) ≡ take 5 l
@@ -179,7 +159,7 @@ streams-length s zero i = refl
 streams-length s (suc n) i = omega (arith, streams-length s n (suc i))
 
 -- those of a session's words are its streams'
-in-session : (s : Session) (k : ℕ) → k < streamPlaces → fiveOf (drop (streamPlace k) (sessionWords s)) ≡ workWords (workOf s k)
+pub in-session : (s : Session) (k : ℕ) → k < streamPlaces → fiveOf (drop (streamPlace k) (sessionWords s)) ≡ workWords (workOf s k)
 unfolding sessionWords
 in-session s k h = rw (← drop-drop (5 * k) 8 (sessionWords s)) (five-in s streamPlaces 0 k h ∙ ap (λ (i : ℕ). workWords (workOf s i)) (zero-add k))
 
@@ -201,11 +181,17 @@ streams-fit s =
     (below-none (λ i. not (streamFits (sessionWords s) (streamPlace i))) streamPlaces
     (λ k h. ap (λ (x : StreamWords). not (fit x)) (sym (words-at (sessionWords s) (streamPlace k)) ∙ in-session s k h) ∙ ap not (work-fits (workOf s k))))
 
-read-work : (w : List ℕ) (i : ℕ) → i < streamPlaces → workOf (sessionOf w) i ≡ meant (fiveOf (drop (streamPlace i) w)) .work
-unfolding workOf sessionOf
-read-work w i h =
-    let f : ℕ → Stream = λ k. streamAt w (streamPlace k) in
-    rw (lt-ltb i streamPlaces h) (ap (λ (x : Stream). x .work) (up-at f resting streamPlaces i h ∙ ap meant (sym (words-at w (streamPlace i)))))
+-- a stream is what its five words mean
+pub read-work : (w : List ℕ) (i : ℕ) → i < streamPlaces → workAt (sessionOf w) i ≡ meant (fiveAt w (streamPlace i)) .work
+unfolding sessionOf
+read-work w i h = ap (λ (x : Stream). x .work) (up-at (λ k. streamAt w (streamPlace k)) resting streamPlaces i h)
+
+pub work-there : (s : Session) (i : ℕ) → i < streamPlaces → workOf s i ≡ workAt s i
+unfolding workOf
+work-there s i h = rw (lt-ltb i streamPlaces h)
+
+pub work-told : (w : List ℕ) (i : ℕ) (x : StreamWords) → i < streamPlaces → x ≡ fiveAt w (streamPlace i) → workOf (sessionOf w) i ≡ meant x .work
+work-told w i x h e = work-there (sessionOf w) i h ∙ read-work w i h ∙ ap (λ (y : StreamWords). meant y .work) (sym e)
 
 streams-from : (w : List ℕ) (n i : ℕ) → i + n ≡ streamPlaces → streamPlace streamPlaces ≤ length w → streamsFit w ≡ true →
     streamsFrom (sessionOf w) n i ≡ take (5 * n) (drop (streamPlace i) w)
@@ -214,11 +200,12 @@ streams-from w (suc n) i e h f =
     let at = streamPlace i in
     let good = none-below (λ k. not (streamFits w (streamPlace k))) streamPlaces (not-true _ f) i (omega arith) in
     let fits = ap fit (words-at w at) ∙ not-false (streamFits w at) good in
+    let told = work-told w i (fiveOf (drop at w)) (omega arith) (words-at w at) in
     let more : 5 * suc n ≡ 5 + 5 * n = omega arith in
     let next : at + 5 ≡ streamPlace (suc i) = omega arith in
     rw (more, take-add 5 (5 * n) (drop at w), drop-drop 5 at w, next, ← streams-from w n (suc i) (omega arith) h f)
     (ap (λ (r : List ℕ). r ++ streamsFrom (sessionOf w) n (suc i))
-    (ap five (ap workWords (read-work w i (omega arith)) ∙ work-again (fiveOf (drop at w)) fits) ∙ five-of (drop at w) (rw (length-drop at w) (omega arith))))
+    (ap five (ap workWords told ∙ work-again (fiveOf (drop at w)) fits) ∙ five-of (drop at w) (rw (length-drop at w) (omega arith))))
 
 -- ---- all of it
 

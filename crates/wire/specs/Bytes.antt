@@ -41,6 +41,10 @@ abbrev pub bytesOf : List ℕ → List ℕ
 bytesOf [] = []
 bytesOf (x ∷ l) = wordBytes x ++ bytesOf l
 
+-- b with words stored one after the other, from word i on
+unfoldable pub putWords : List ℕ → ℕ → List ℕ → List ℕ
+putWords b i words = sets b (8 * i) (bytesOf words)
+
 -- every number is a byte, and every number a word
 abbrev pub Bytes : List ℕ → Type 0
 Bytes b = (i : ℕ) → getD b i 0 < 256

@@ -1,21 +1,23 @@
 -- The session as 48 words, part by part: its own numbers, the check, and five words for each stream. Of each part: what its words must be, what they mean in
--- their place, and the words that it is.
+-- their place, and the words that it is. At the end, what a change writes of them.
 use mathlib.Core.Bool.{Bool, true, false, cond, not, _&&_, _||_}
 use mathlib.Core.List.{List, [], _∷_, _++_}
 use Prim.Native.Nat.{ℕ, zero, suc, _+_, _*_}
-use lib.Dec.{eqb, leb}
-use lib.ListN.{getD}
-use Rattle.session.specs.Session.{phaseNumber, streamPlaces, workOf}
-use Rattle.session.specs.Formed.{someBelow}
+use lib.Dec.{eqb, leb, ltb}
+use lib.ListN.{getD, replicate}
+use Rattle.session.specs.Session.{phaseNumber, unchecked, streamPlaces, workOf}
+use Rattle.session.specs.Formed.{lastEntry, someBelow}
 use Rattle.session.specs.declared.Phase.{Phase}
 use Rattle.session.specs.declared.Phase.the-variants.{Idle, Live, Blackout, Done}
 use Rattle.session.specs.declared.Check.{Check}
 use Rattle.session.specs.declared.Session.{Session}
+use Rattle.session.specs.declared.changes.Change.{Change}
+use Rattle.session.specs.declared.changes.Change.the-variants.{Nothing, ToPhase, ToEpoch, ToClock, ToCheck, Begin, ToWork}
 use Rattle.session.specs.declared.streams.Work.{Work}
 use Rattle.session.specs.declared.streams.Work.the-variants.{AtRest, Interrupted}
 use Rattle.session.specs.declared.streams.Stream.{Stream}
-use Rattle.wire.specs.declared.sessions.StreamWords.{StreamWords}
-use Rattle.wire.specs.Bytes.{upTo}
+use Rattle.wire.specs.declared.streams.StreamWords.{StreamWords}
+use Rattle.wire.specs.Bytes.{upTo, putWords}
 
 abbrev pub sessionLength : ℕ
 sessionLength = 48
@@ -87,6 +89,22 @@ abbrev pub streamsFrom : Session → ℕ → ℕ → List ℕ
 streamsFrom s zero i = []
 streamsFrom s (suc n) i = five (workWords (workOf s i)) ++ streamsFrom s n (suc i)
 
+-- for the code, which asks in one look at a stream's words what `fits` and `formed` ask one after the other: the five from `at` on
+abbrev pub fiveAt : List ℕ → ℕ → StreamWords
+fiveAt w at =
+    record { flag = getD w at 0; next = getD w (at + 1) 0; last = getD w (at + 2) 0; errors = getD w (at + 3) 0; filled = getD w (at + 4) 0 }
+
+-- at rest, or interrupted in its ranges and able to be
+abbrev pub streamFormed : Bool → StreamWords → Bool
+streamFormed able x =
+    eqb (x .flag) 0 && eqb (x .next) 0 && eqb (x .last) 0 && eqb (x .errors) 0 && eqb (x .filled) 0
+    || eqb (x .flag) 1 && leb (x .next) (x .last) && leb (x .last) lastEntry && leb (x .errors) (x .next) && leb (x .filled) (x .next) && able
+
+-- every one of them, where so many are created and the phase is one in which they move, or not
+unfoldable pub streamsFormed : Bool → ℕ → List ℕ → Bool
+streamsFormed moves created w =
+    not (someBelow (λ i. not (streamFormed (ltb (i + 1) created && moves) (fiveAt w (streamPlace i)))) streamPlaces)
+
 -- ---- all of it
 
 -- the words are in the layout
@@ -107,3 +125,16 @@ sessionOf w =
 
 unfoldable pub sessionWords : Session → List ℕ
 sessionWords s = ownWords s ++ (checkWords (s .check) ++ streamsFrom s streamPlaces 0)
+
+-- ---- a change in its place
+
+-- the session's bytes with the words of what changes, and no others
+unfoldable pub writtenBy : Change → List ℕ → List ℕ
+writtenBy Nothing b = b
+writtenBy (ToPhase phase) b = putWords b 0 (phaseNumber phase ∷ [])
+writtenBy (ToEpoch epoch) b = putWords b 3 (epoch ∷ [])
+writtenBy (ToClock clock) b = putWords b 2 (clock .tlb ∷ [])
+writtenBy (ToCheck check) b = putWords b 5 (checkWords check)
+writtenBy (Begin phase epoch) b =
+    putWords (putWords (putWords (putWords b 0 (phaseNumber phase ∷ [])) 3 (epoch ∷ [])) 5 (checkWords unchecked)) streamsPlace (replicate (5 * streamPlaces) 0)
+writtenBy (ToWork stream work) b = cond (ltb stream streamPlaces) (putWords b (streamPlace stream) (five (workWords work))) b

@@ -1,8 +1,9 @@
 // Words in bytes, little-endian: the lowest byte first.
+ghost use mathlib.Core.List.{[], _∷_};
 ghost use mathlib.Core.Path.{_≡_};
-ghost use Prim.Native.Nat.{_+_, _*_, _/_, _<_, _≤_};
-ghost use lib.ListN.{length};
-ghost use Rattle.wire.specs.Bytes.{halfAt, wordAt, putHalf, putWord, wordsOf, bytesOf};
+ghost use Prim.Native.Nat.{_+_, _*_, _≤_};
+ghost use lib.ListN.{length, getD};
+ghost use Rattle.wire.specs.Bytes.{halfAt, wordAt, putHalf, putWord, wordsOf, putWords};
 
 fn wide(x: u8) -> u64
     ensures { λ r. ⌜ r ≡ x ⌝ }
@@ -45,28 +46,17 @@ pub fn put_word(b: &mut [u8], at: usize, x: u64)
     put_half(b, at + 4, x / 0x100000000);
 }
 
-// The words that the bytes are.
-pub fn decode(b: &[u8], words: &mut [u64])
-    requires { ⌜ length (now words) ≡ length (now b) / 8 ⌝ }
-    ensures { λ _. ⌜ now (words .exit) ≡ wordsOf (now (b .entry)) ⌝ }
+// Word i of the words that the bytes are.
+pub fn number(b: &[u8], i: usize) -> u64
+    requires { ⌜ 8 * i + 8 ≤ length (now b) ⌝ }
+    ensures { λ r. ⌜ r ≡ getD (wordsOf (now (b .entry))) i 0 ⌝ }
 {
-    let n = words.len();
-    let mut i: usize = 0;
-    while i < n {
-        words[i] = word_at(b, 8 * i);
-        i = i + 1;
-    }
+    word_at(b, 8 * i)
 }
 
-// The bytes that the words are.
-pub fn encode(words: &[u64], b: &mut [u8])
-    requires { ⌜ length (now b) ≡ 8 * length (now words) ⌝ }
-    ensures { λ _. ⌜ now (b .exit) ≡ bytesOf (now (words .entry)) ⌝ }
+pub fn put_number(b: &mut [u8], i: usize, x: u64)
+    requires { ⌜ 8 * i + 8 ≤ length (now b) ⌝ }
+    ensures { λ _. ⌜ now (b .exit) ≡ putWords (now (b .entry)) i (x ∷ []) ⌝ }
 {
-    let n = words.len();
-    let mut i: usize = 0;
-    while i < n {
-        put_word(b, 8 * i, words[i]);
-        i = i + 1;
-    }
+    put_word(b, 8 * i, x);
 }

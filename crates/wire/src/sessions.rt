@@ -1,20 +1,25 @@
-// The session as 48 words, part by part: its own numbers, the check, and five words for each stream. Each part is read, tested and written in its place.
+// The session where it lies: 48 words in its bytes, part by part: its own numbers, the check, and five words for each stream. Each part is tested, read and
+// written in its place. No more is read than is asked for, and a change writes its own words alone.
+ghost use mathlib.Core.Bool.{_&&_};
 ghost use mathlib.Core.Path.{_≡_};
-ghost use Prim.Native.Nat.{_+_, _*_, _<_, _≤_};
+ghost use Prim.Native.Nat.{_*_};
 ghost use lib.ListN.{length};
-ghost use lib.Seq.{sets};
-ghost use Rattle.session.specs.Session.{phaseNumber, streamPlaces};
-ghost use Rattle.wire.specs.Sessions.{sessionLength, phaseOf, ownWords, bitOf, checkFits, checkOf, checkWords};
-ghost use Rattle.wire.specs.Sessions.{streamAt, streamFits, streamsFit, streamsOf, workWords, five, streamsPlace, streamPlace, streamsFrom, fits};
-ghost use Rattle.wire.specs.Sessions.{sessionOf, sessionWords};
+ghost use Rattle.session.specs.Session.{phaseNumber, workOf};
+ghost use Rattle.session.specs.Formed.{epochIn, formed, busy};
+ghost use Rattle.wire.specs.Bytes.{wordsOf, bytesOf, putWords};
+ghost use Rattle.wire.specs.Sessions.{sessionLength, phaseOf, ownWords, bitOf, checkWords, fits, sessionOf, sessionWords, writtenBy};
+use crate::bytes;
+use crate::streams;
 use page::Clock;
 use session::Check;
-use session::Fixed;
+use session::FEWEST_CREATED;
+use session::LAST_EPOCH;
+use session::MOST_CREATED;
 use session::Phase;
 use session::Session;
-use session::streams;
+use session::changes;
+use session::changes::Change;
 use session::streams::STREAM_PLACES;
-use session::streams::Stream;
 use session::streams::Work;
 
 // How many words a session is.
@@ -48,17 +53,61 @@ fn number_of(p: Phase) -> u64
     }
 }
 
-fn put_own(w: &mut [u64], s: Session)
-    requires { ⌜ length (now w) ≡ sessionLength ⌝ }
-    ensures { λ _. ⌜ now (w .exit) ≡ sets (now (w .entry)) 0 (ownWords s) ⌝ }
+pub fn phase_at(b: &[u8]) -> Phase
+    requires { ⌜ length (now b) ≡ 8 * sessionLength ⌝ }
+    ensures { λ r. ⌜ r ≡ sessionOf (wordsOf (now (b .entry))) .phase ⌝ }
+{
+    phase_of(bytes::number(b, 0))
+}
+
+pub fn pages_at(b: &[u8]) -> usize
+    requires { ⌜ length (now b) ≡ 8 * sessionLength ⌝ }
+    ensures { λ r. ⌜ r ≡ sessionOf (wordsOf (now (b .entry))) .fixed .pages ⌝ }
+{
+    bytes::number(b, 1) as usize
+}
+
+pub fn clock_at(b: &[u8]) -> Clock
+    requires { ⌜ length (now b) ≡ 8 * sessionLength ⌝ }
+    ensures { λ r. ⌜ r ≡ sessionOf (wordsOf (now (b .entry))) .clock ⌝ }
+{
+    Clock {
+        tlb: bytes::number(b, 2),
+    }
+}
+
+pub fn epoch_at(b: &[u8]) -> u64
+    requires { ⌜ length (now b) ≡ 8 * sessionLength ⌝ }
+    ensures { λ r. ⌜ r ≡ sessionOf (wordsOf (now (b .entry))) .epoch ⌝ }
+{
+    bytes::number(b, 3)
+}
+
+pub fn created_at(b: &[u8]) -> u64
+    requires { ⌜ length (now b) ≡ 8 * sessionLength ⌝ }
+    ensures { λ r. ⌜ r ≡ sessionOf (wordsOf (now (b .entry))) .fixed .created ⌝ }
+{
+    bytes::number(b, 4)
+}
+
+fn put_own(b: &mut [u8], s: Session)
+    requires { ⌜ length (now b) ≡ 8 * sessionLength ⌝ }
+    ensures { λ _. ⌜ now (b .exit) ≡ putWords (now (b .entry)) 0 (ownWords s) ⌝ }
 {
     let p = s.phase;
-    let phase = number_of(p);
-    w[0] = phase;
-    w[1] = s.fixed.pages as u64;
-    w[2] = s.clock.tlb;
-    w[3] = s.epoch;
-    w[4] = s.fixed.created;
+    bytes::put_number(b, 0, number_of(p));
+    bytes::put_number(b, 1, s.fixed.pages as u64);
+    bytes::put_number(b, 2, s.clock.tlb);
+    bytes::put_number(b, 3, s.epoch);
+    bytes::put_number(b, 4, s.fixed.created);
+}
+
+// The migration epoch is 0 in Idle, else 1 to 65,535.
+fn is_epoch_in(phase: u64, epoch: u64) -> bool
+    ensures { λ r. ⌜ r ≡ epochIn (phaseOf phase) epoch ⌝ }
+{
+    let idle = phase == 0;
+    (idle & (epoch == 0)) | (!idle & (1 <= epoch) & (epoch <= LAST_EPOCH))
 }
 
 // ---- the check: words 5 to 7
@@ -69,197 +118,125 @@ fn bit_of(b: bool) -> u64
     if b { 1 } else { 0 }
 }
 
-fn is_check(w: &[u64]) -> bool
-    requires { ⌜ length (now w) ≡ sessionLength ⌝ }
-    ensures { λ r. ⌜ r ≡ checkFits (now (w .entry)) ⌝ }
-{
-    (w[6] <= 1) & (w[7] <= 1)
-}
-
-fn check_of(w: &[u64]) -> Check
-    requires { ⌜ length (now w) ≡ sessionLength ⌝ }
-    ensures { λ r. ⌜ r ≡ checkOf (now (w .entry)) ⌝ }
+pub fn check_at(b: &[u8]) -> Check
+    requires { ⌜ length (now b) ≡ 8 * sessionLength ⌝ }
+    ensures { λ r. ⌜ r ≡ sessionOf (wordsOf (now (b .entry))) .check ⌝ }
 {
     Check {
-        place: w[5] as usize,
-        complete: w[6] == 1,
-        failed: w[7] == 1,
+        place: bytes::number(b, 5) as usize,
+        complete: bytes::number(b, 6) == 1,
+        failed: bytes::number(b, 7) == 1,
     }
 }
 
-fn put_check(w: &mut [u64], c: Check)
-    requires { ⌜ length (now w) ≡ sessionLength ⌝ }
-    ensures { λ _. ⌜ now (w .exit) ≡ sets (now (w .entry)) 5 (checkWords c) ⌝ }
+fn put_check(b: &mut [u8], c: Check)
+    requires { ⌜ length (now b) ≡ 8 * sessionLength ⌝ }
+    ensures { λ _. ⌜ now (b .exit) ≡ putWords (now (b .entry)) 5 (checkWords c) ⌝ }
 {
     let complete = bit_of(c.complete);
     let failed = bit_of(c.failed);
-    w[5] = c.place as u64;
-    w[6] = complete;
-    w[7] = failed;
+    bytes::put_number(b, 5, c.place as u64);
+    bytes::put_number(b, 6, complete);
+    bytes::put_number(b, 7, failed);
 }
 
-// ---- the streams: five words each, from word 8 on
+// ---- the streams
 
-fn stream_place(i: usize) -> usize
-    requires { ⌜ i < streamPlaces ⌝ }
-    ensures { λ r. ⌜ r ≡ streamPlace i ⌝ }
+// Some stream is interrupted.
+pub fn is_busy(b: &[u8]) -> bool
+    requires { ⌜ length (now b) ≡ 8 * sessionLength ⌝ }
+    ensures { λ r. ⌜ r ≡ busy (sessionOf (wordsOf (now (b .entry)))) ⌝ }
 {
-    8 + 5 * i
-}
-
-// The stream whose five words begin at `at`.
-fn stream_at(w: &[u64], at: usize) -> Stream
-    requires { ⌜ at + 5 ≤ length (now w) ⌝ }
-    ensures { λ r. ⌜ r ≡ streamAt (now (w .entry)) at ⌝ }
-{
-    if w[at] == 0 {
-        return Stream { work: Work::AtRest };
-    }
-    Stream {
-        work: Work::Interrupted {
-            next: w[at + 1],
-            last: w[at + 2],
-            errors: w[at + 3],
-            filled: w[at + 4],
-        },
-    }
-}
-
-// The flag is 0 or 1, and at rest the other four words are 0.
-fn is_stream(w: &[u64], at: usize) -> bool
-    requires { ⌜ at + 5 ≤ length (now w) ⌝ }
-    ensures { λ r. ⌜ r ≡ streamFits (now (w .entry)) at ⌝ }
-{
-    let flag = w[at];
-    let blank = (w[at + 1] == 0) & (w[at + 2] == 0) & (w[at + 3] == 0) & (w[at + 4] == 0);
-    (flag == 1) | ((flag == 0) & blank)
-}
-
-// The five words of a stream.
-struct StreamWords {
-    flag: u64,
-    next: u64,
-    last: u64,
-    errors: u64,
-    filled: u64,
-}
-
-fn stream_words(work: Work) -> StreamWords
-    ensures { λ r. ⌜ r ≡ workWords work ⌝ }
-{
-    match work {
-        Work::AtRest => StreamWords {
-            flag: 0,
-            next: 0,
-            last: 0,
-            errors: 0,
-            filled: 0,
-        },
-        Work::Interrupted {
-            next,
-            last,
-            errors,
-            filled,
-        } => StreamWords {
-            flag: 1,
-            next,
-            last,
-            errors,
-            filled,
-        },
-    }
-}
-
-fn put_stream(w: &mut [u64], at: usize, work: Work)
-    requires { ⌜ at + 5 ≤ length (now w) ⌝ }
-    ensures { λ _. ⌜ now (w .exit) ≡ sets (now (w .entry)) at (five (workWords work)) ⌝ }
-{
-    let x = stream_words(work);
-    w[at] = x.flag;
-    w[at + 1] = x.next;
-    w[at + 2] = x.last;
-    w[at + 3] = x.errors;
-    w[at + 4] = x.filled;
-}
-
-fn are_streams(w: &[u64]) -> bool
-    requires { ⌜ length (now w) ≡ sessionLength ⌝ }
-    ensures { λ r. ⌜ r ≡ streamsFit (now (w .entry)) ⌝ }
-{
-    let mut bad = false;
+    let mut any = false;
     let mut i: usize = 0;
     while i < STREAM_PLACES {
-        let good = is_stream(w, stream_place(i));
-        bad = bad | !good;
+        let flag = bytes::number(b, streams::stream_place(i));
+        any = any | (flag != 0);
         i = i + 1;
     }
-    !bad
+    any
 }
 
-fn streams_of(w: &[u64]) -> [Stream; STREAM_PLACES]
-    requires { ⌜ length (now w) ≡ sessionLength ⌝ }
-    ensures { λ r. ⌜ r ≡ streamsOf (now (w .entry)) ⌝ }
+// What a stream is doing; at rest where the session has no place for it.
+pub fn work_at(b: &[u8], stream: u64) -> Work
+    requires { ⌜ length (now b) ≡ 8 * sessionLength ⌝ }
+    ensures { λ r. ⌜ r ≡ workOf (sessionOf (wordsOf (now (b .entry)))) stream ⌝ }
 {
-    let mut streams = streams::at_rest();
-    let mut i: usize = 0;
-    while i < STREAM_PLACES {
-        streams[i] = stream_at(w, stream_place(i));
-        i = i + 1;
+    if stream < STREAM_PLACES as u64 {
+        let x = streams::five_at(b, streams::stream_place(stream as usize));
+        if x.flag != 0 {
+            return Work::Interrupted {
+                next: x.next,
+                last: x.last,
+                errors: x.errors,
+                filled: x.filled,
+            };
+        }
     }
-    streams
-}
-
-fn put_streams(w: &mut [u64], s: Session)
-    requires { ⌜ length (now w) ≡ sessionLength ⌝ }
-    ensures { λ _. ⌜ now (w .exit) ≡ sets (now (w .entry)) streamsPlace (streamsFrom s streamPlaces 0) ⌝ }
-{
-    let mut i: usize = 0;
-    while i < STREAM_PLACES {
-        let work = streams::work_of(s, i as u64);
-        put_stream(w, stream_place(i), work);
-        i = i + 1;
-    }
+    Work::AtRest
 }
 
 // ---- all of it
 
-// The words are in the session's layout.
-pub fn is_session(w: &[u64]) -> bool
-    requires { ⌜ length (now w) ≡ sessionLength ⌝ }
-    ensures { λ r. ⌜ r ≡ fits (now (w .entry)) ⌝ }
+// The session's words are in the layout and it is well-formed, with a table of `len` words.
+pub fn is_formed(b: &[u8], len: usize) -> bool
+    requires { ⌜ length (now b) ≡ 8 * sessionLength ⌝ }
+    ensures { λ r. ⌜ r ≡ (fits (wordsOf (now (b .entry))) && formed (sessionOf (wordsOf (now (b .entry)))) len) ⌝ }
 {
-    let check = is_check(w);
-    let streams = are_streams(w);
-    (w[0] <= 3) & check & streams
+    let phase = bytes::number(b, 0);
+    let pages = bytes::number(b, 1);
+    let tlb = bytes::number(b, 2);
+    let epoch = bytes::number(b, 3);
+    let created = bytes::number(b, 4);
+    let place = bytes::number(b, 5);
+    let complete = bytes::number(b, 6);
+    let failed = bytes::number(b, 7);
+    let legal = table::is_legal(len);
+    let epoch_in = is_epoch_in(phase, epoch);
+    let streams = streams::are_streams(b, created, (phase == 1) | (phase == 2));
+    let malformed = !legal
+        | ((len / 2) as u64 != pages)
+        | !((1 <= pages) & (pages <= table::MOST_PAGES as u64))
+        | !((1 <= tlb) & (tlb <= LAST_EPOCH))
+        | !epoch_in
+        | !((FEWEST_CREATED <= created) & (created <= MOST_CREATED))
+        | (pages < place)
+        | ((complete == 1) & (place != pages))
+        | ((complete == 1) & (failed == 1));
+    (phase <= 3) & ((complete <= 1) & (failed <= 1)) & !malformed & streams
 }
 
-// What words in the layout mean. Any other words give a session too, of which nothing is said.
-pub fn session_of(w: &[u64]) -> Session
-    requires { ⌜ length (now w) ≡ sessionLength ⌝ }
-    ensures { λ r. ⌜ r ≡ sessionOf (now (w .entry)) ⌝ }
+// What a change writes, and no other word.
+pub fn put_change(b: &mut [u8], c: Change)
+    requires { ⌜ length (now b) ≡ 8 * sessionLength ⌝ }
+    ensures { λ _. ⌜ now (b .exit) ≡ writtenBy c (now (b .entry)) ⌝ }
 {
-    let phase = phase_of(w[0]);
-    let check = check_of(w);
-    let streams = streams_of(w);
-    Session {
-        phase,
-        epoch: w[3],
-        fixed: Fixed {
-            pages: w[1] as usize,
-            created: w[4],
-        },
-        clock: Clock { tlb: w[2] },
-        check,
-        streams,
+    match c {
+        Change::Nothing => {}
+        Change::ToPhase { phase } => bytes::put_number(b, 0, number_of(phase)),
+        Change::ToEpoch { epoch } => bytes::put_number(b, 3, epoch),
+        Change::ToClock { clock } => bytes::put_number(b, 2, clock.tlb),
+        Change::ToCheck { check } => put_check(b, check),
+        Change::Begin { phase, epoch } => {
+            bytes::put_number(b, 0, number_of(phase));
+            bytes::put_number(b, 3, epoch);
+            put_check(b, changes::no_check());
+            streams::rest_streams(b);
+        }
+        Change::ToWork { stream, work } => {
+            if stream < STREAM_PLACES as u64 {
+                streams::put_work(b, stream as usize, work);
+            }
+        }
     }
 }
 
-// The words that a session is.
-pub fn put_session(w: &mut [u64], s: Session)
-    requires { ⌜ length (now w) ≡ sessionLength ⌝ }
-    ensures { λ _. ⌜ now (w .exit) ≡ sessionWords s ⌝ }
+// The whole session, as New makes it.
+pub fn put_session(b: &mut [u8], s: Session)
+    requires { ⌜ length (now b) ≡ 8 * sessionLength ⌝ }
+    ensures { λ _. ⌜ now (b .exit) ≡ bytesOf (sessionWords s) ⌝ }
 {
-    put_own(w, s);
-    put_check(w, s.check);
-    put_streams(w, s);
+    put_own(b, s);
+    put_check(b, s.check);
+    streams::put_streams(b, s);
 }

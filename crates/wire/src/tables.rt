@@ -36,6 +36,16 @@ pub fn store(b: &mut [u8], at: usize, w: PageWords)
     }
 }
 
+// Other words for a page that has those before; where they are the same nothing is written.
+pub fn replace(b: &mut [u8], at: usize, before: PageWords, after: PageWords)
+    requires { ⌜ (length (now b) % 8 ≡ 0) × (before ≡ wordsAt (wordsOf (now b)) at) ⌝ }
+    ensures { λ _. ⌜ now (b .exit) ≡ putPage (now (b .entry)) at after ⌝ }
+{
+    if (after.word != before.word) | (after.mark != before.mark) {
+        store(b, at, after);
+    }
+}
+
 // Every page moved.
 pub fn sweep_all(b: &mut [u8], k: Sweep)
     requires { ⌜ length (now b) % 8 ≡ 0 ⌝ }

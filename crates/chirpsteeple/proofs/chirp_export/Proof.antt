@@ -1,13 +1,12 @@
--- What is left is what `with_lists` leaves; the answer is its numbers, as an export has them.
+-- What is left is what the host's call leaves; the answer is its numbers, as an export has them.
 use borrow.Author.Needs.{needs}
-use Rattle.host.proofs.ListLaws.{export-comes}
-use Rattle.chirpsteeple.specs.Functions.{exportToC}
 use mathlib.Core.Path.{ap}
+use Rattle.chirpsteeple.specs.Functions.{exportToC}
 use Rattle.chirpsteeple.proofs.chirp_export.Statement.{statement}
 use Rattle.chirpsteeple.proofs.chirp_export.Tie as tie
 
-with-lists-requires : tie.Need-with-lists-requires
-with-lists-requires c κs = export-comes _ _ _ _
+export-requires : tie.Need-export-requires
+export-requires c κs = search needs
 
 same-length : tie.Need-same-length
 same-length c = search needs
@@ -23,8 +22,16 @@ same-length-4 c = search needs
 
 returns : tie.Need-returns
 returns c =
-    let w = c .before .before .before .before .before .before .before .before .with-lists .ensures in
+    let w = c .before .before .before .before .before .before .before .before .export .ensures in
     (ap exportToC (w .0), w .1)
 
 pub chirp-export-spec : {M : Type 1} → statement M
-chirp-export-spec = tie.close (tie.spec with-lists-requires same-length same-length-2 same-length-3 same-length-4 returns)
+chirp-export-spec =
+    tie.close
+    (tie.spec
+    export-requires
+    same-length
+    same-length-2
+    same-length-3
+    same-length-4
+    returns)

@@ -8,56 +8,49 @@ use borrow.Author.Tests.{eq-eqb, ne-eqb}
 use Rattle.words.specs.Codes as codes
 use Rattle.refusals.specs.Refusals.{Test, _gives_, firstOf}
 use Rattle.refusals.proofs.Laws.{reached, passed-code}
-use Rattle.session.proofs.Laws.{gate-first}
+use Rattle.session.specs.Formed.{behind}
 use Rattle.lists.proofs.Laws.{list-test}
-use Rattle.export.specs.Export.{otherBuffer, notFrom0, exportCode}
+use Rattle.export.specs.Export.{otherBuffer, notFrom0, exportAsks}
 use Rattle.export.proofs.export_code.Statement.{statement}
 use Rattle.export.proofs.export_code.Tie as tie
 
 abbrev at-list : tie.Else1 → tie.After-list-code
 at-list c = c .before .before
 
-abbrev at-gate : tie.Else1 → tie.After-gate
-at-gate c = at-list c .before
+abbrev at-resting : tie.Else1 → tie.After-is-resting
+at-resting c = at-list c .before
 
 abbrev start : tie.Else1 → tie.Start
-start c = at-gate c .before .before .before .before .before
+start c = at-resting c .before .before .before
 
 -- the tests behind those of a list, and all of them, as the code made them
 abbrev rest : tie.Else1 → List Test
 rest c =
-    (start c .args .resume && not (at-gate c .before .before .is-resumable .result)) gives codes.invalidResumption
-    ∷ (not (start c .args .resume) && not (at-gate c .before .is-resting .result)) gives codes.invalidResumption
+    (start c .args .resume && not (at-resting c .before .is-resumable .result)) gives codes.invalidResumption
+    ∷ (not (start c .args .resume) && not (at-resting c .is-resting .result)) gives codes.invalidResumption
     ∷ notFrom0 (start c .args .resume) (start c .args .x) gives codes.operandInvalid
     ∷ []
 
 abbrev tests : tie.Else1 → List Test
 tests c =
-    not (at-gate c .before .before .before .is-usable .result) gives codes.operandInvalid
+    not (at-resting c .before .before .is-usable .result) gives codes.operandInvalid
     ∷ otherBuffer (start c .args .entries) (start c .args .room) gives codes.operandInvalid
     ∷ not (eqb (at-list c .list-code .result) codes.done) gives at-list c .list-code .result
     ∷ rest c
 
 past-gate : (c : tie.Else1) →
-    exportCode (start c .args .s) (start c .args .len) (start c .args .entries) (start c .args .room) (start c .args .stream) (start c .args .resume)
-    (start c .args .x) ≡ firstOf (tests c)
-unfolding exportCode
+    let a = start c .args in
+    behind (a .gate) (exportAsks (a .created) (a .work) (a .entries) (a .room) (a .stream) (a .resume) (a .x)) ≡ firstOf (tests c)
 past-gate c =
-    let g = at-gate c in
+    let rests = at-resting c in
     rw (
-      gate-first,
-      ← g .gate .ensures,
       eq-eqb _ _ (c .if1 .left),
-      ← g .before .before .before .is-usable .ensures,
-      ← g .before .before .before .before .work-of .ensures,
-      ← g .before .before .is-resumable .ensures,
-      ← g .before .is-resting .ensures,
+      ← rests .before .before .is-usable .ensures,
+      ← rests .before .is-resumable .ensures,
+      ← rests .is-resting .ensures,
       list-test (start c .args .entries) (start c .args .x) (rest c),
       ← at-list c .list-code .ensures,
     )
-
-work-of-requires : tie.Need-work-of-requires
-work-of-requires c κs = search needs
 
 is-usable-requires : tie.Need-is-usable-requires
 is-usable-requires c κs = search needs
@@ -68,15 +61,11 @@ is-resumable-requires c κs = search needs
 is-resting-requires : tie.Need-is-resting-requires
 is-resting-requires c κs = search needs
 
-gate-requires : tie.Need-gate-requires
-gate-requires c κs = search needs
-
 list-code-requires : tie.Need-list-code-requires
 list-code-requires c κs = search needs
 
 returns : tie.Need-returns
-unfolding exportCode
-returns c = rw (gate-first, ← c .before .before .before .gate .ensures, ne-eqb _ _ (c .if1 .taken))
+returns c = rw (ne-eqb _ _ (c .if1 .taken))
 
 returns-2 : tie.Need-returns-2
 returns-2 c = let at-else = c .before in sym (past-gate at-else ∙ reached (tests at-else) 0 (c .if2 .taken))
@@ -128,5 +117,5 @@ returns-8 c = let at-else = c .before .before .before .before .before .before in
 pub export-code-spec : {M : Type 1} → statement M
 export-code-spec =
     tie.close
-    (tie.spec work-of-requires is-usable-requires is-resumable-requires is-resting-requires gate-requires list-code-requires
+    (tie.spec is-usable-requires is-resumable-requires is-resting-requires list-code-requires
     returns returns-2 returns-3 returns-4 returns-5 returns-6 returns-7 returns-8)

@@ -1,8 +1,7 @@
--- By the gate's code: the session as it was, or what comes behind the gate.
+-- The answer is what the call comes to from its gate's code.
 use borrow.Author.Needs.{needs}
-use Rattle.migration.specs.Migration.{aloneCode, aloneAnswer}
-use borrow.Author.Tests.{eq-eqb, ne-eqb}
-use Rattle.session.proofs.Laws.{gate-first}
+use mathlib.Core.Path.{_∙_}
+use Rattle.migration.proofs.Laws.{alone-told}
 use Rattle.migration.proofs.on_session.Statement.{statement}
 use Rattle.migration.proofs.on_session.Tie as tie
 
@@ -12,26 +11,26 @@ alone-when-requires c κs = search needs
 gate-requires : tie.Need-gate-requires
 gate-requires c κs = search needs
 
-answer-requires : tie.Need-answer-requires
-answer-requires c κs = search needs
+is-busy-requires : tie.Need-is-busy-requires
+is-busy-requires c κs = search needs
+
+alone-verdict-requires : tie.Need-alone-verdict-requires
+alone-verdict-requires c κs = search needs
+
+changed-requires : tie.Need-changed-requires
+changed-requires c κs = search needs
 
 returns : tie.Need-returns
-unfolding aloneAnswer aloneCode
 returns c =
-    let at-if1 = c .before in
-    let at-gate = at-if1 .before in
-    rw (gate-first, ← at-gate .before .alone-when .ensures, ← at-gate .gate .ensures, ne-eqb _ _ (at-if1 .if1 .taken), ne-eqb _ _ (at-if1 .if1 .taken))
-    (c .answer .ensures)
-
-alone-passed-requires : tie.Need-alone-passed-requires
-alone-passed-requires c κs = search needs
-
-returns-2 : tie.Need-returns-2
-unfolding aloneAnswer aloneCode
-returns-2 c =
-    let at-if1 = c .before in
-    let at-gate = at-if1 .before in
-    rw (gate-first, ← at-gate .before .alone-when .ensures, ← at-gate .gate .ensures, eq-eqb _ _ (at-if1 .if1 .left)) (c .alone-passed .ensures)
+    let at-busy = c .before .before in
+    let at-gate = at-busy .before in
+    let a = at-gate .before .before .args in
+    rw (
+      ← alone-told (a .k) (a .s) (a .len) _ (rw (at-gate .before .alone-when .ensures) at (at-gate .gate .ensures)),
+      ← at-busy .is-busy .ensures,
+      ← c .before .alone-verdict .ensures,
+      ← c .changed .ensures,
+    )
 
 pub on-session-spec : {M : Type 1} → statement M
 on-session-spec =
@@ -39,7 +38,7 @@ on-session-spec =
     (tie.spec
     alone-when-requires
     gate-requires
-    answer-requires
-    returns
-    alone-passed-requires
-    returns-2)
+    is-busy-requires
+    alone-verdict-requires
+    changed-requires
+    returns)

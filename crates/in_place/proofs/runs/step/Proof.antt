@@ -52,8 +52,10 @@ count-requires c κs =
     let start = at-load .before .before .before .before .before .before .before .before .before .before in
     (start .pre .1 .1, start .pre .1 .2, start .pre .1 .3)
 
-store-requires : tie.Need-store-requires
-store-requires c κs = search needs
+replace-requires : tie.Need-replace-requires
+replace-requires c κs =
+    let at-load = c .before .before .before .before in
+    (at-load .before .before .before .before .before .before .before .before .before .before .pre .0 .0, at-load .load .ensures)
 
 mul-put-word : tie.Need-mul-put-word
 mul-put-word c =
@@ -111,7 +113,7 @@ returns c =
     (at-take .take .ensures))) in (
       at-count .count .ensures ∙ by .0,
       (
-        ap wordsOf (at-store .store .ensures)
+        ap wordsOf (at-store .replace .ensures)
             ∙ words-put t _ (got .words) (λ i. of-table .slice-known .given i .fits) (start .pre .0 .0) (page .0 .1) (page .1 .0 .1) ∙ by .1 .0,
         (
           ap wordsOf (at-put .put-word .ensures)
@@ -125,5 +127,5 @@ returns c =
 pub step-spec : {M : Type 1} → statement M
 step-spec =
     tie.close
-    (tie.spec mul-word-at word-at-requires held-at-requires entry-of-requires load-requires take-requires count-requires store-requires
+    (tie.spec mul-word-at word-at-requires held-at-requires entry-of-requires load-requires take-requires count-requires replace-requires
     mul-put-word put-word-requires hold-requires same-length same-length-2 same-length-3 returns)
