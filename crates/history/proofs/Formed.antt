@@ -171,7 +171,7 @@ streams-after w g n = call-streams (w .session) (w .table) n (g .list) (g .buffe
 -- ---- histories
 
 -- what a history begins with, New being accepted
-new-begins : (s : Session) (t : List ℕ) (created : ℕ) → accepted (newEffect s t created) ≡ true →
+pub new-begins : (s : Session) (t : List ℕ) (created : ℕ) → accepted (newEffect s t created) ≡ true →
     (formed (newWorld s t created .session) (length (newWorld s t created .table)) ≡ true) × (length (newWorld s t created .session .streams) ≡ streamPlaces)
 unfolding newOut
 new-begins s t created =

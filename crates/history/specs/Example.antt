@@ -42,7 +42,7 @@ abbrev onNone : Alone → Given
 onNone k = plain (OnSession k)
 
 -- LAST and FIRST of an info word
-abbrev upTo : ℕ → ℕ → ℕ
+abbrev pub upTo : ℕ → ℕ → ℕ
 upTo last first = last * 2 ^ 55 + first * 8
 
 -- what the scan lists: pages 0 and 1, and 2, which is pending

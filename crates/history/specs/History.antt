@@ -73,11 +73,15 @@ abbrev pub sentFrom : ℕ → List ℕ → List ℕ → ℕ → ℕ → List Sen
 sentFrom epoch l b first zero = []
 sentFrom epoch l b first (suc n) = sentFrom epoch l b first n ++ sentBy epoch (getD l (first + n) 0) (getD b (first + n) 0)
 
--- the entry that an export has come to: done, behind LAST; interrupted, FIRST as it came back; refused, FIRST as it was given
+-- the entry that an export has come to, by its code and the info word that came back: done, behind LAST; interrupted, FIRST as it came back; refused,
+-- FIRST as it was given
+abbrev pub cameBy : ℕ → ℕ → ℕ → ℕ
+cameBy info code back =
+    cond (eqb code codes.done) (infoOf info .last + 1)
+    (cond (eqb code codes.interrupted) (infoOf back .first) (infoOf info .first))
+
 abbrev pub cameTo : ℕ → Returned → ℕ
-cameTo info r =
-    cond (eqb (r .code) codes.done) (infoOf info .last + 1)
-    (cond (eqb (r .code) codes.interrupted) (infoOf (r .info) .first) (infoOf info .first))
+cameTo info r = cameBy info (r .code) (r .info)
 
 -- the entries that an export took, from FIRST as it was given
 abbrev pub sentIn : World → ℕ → Effect → List Sent

@@ -1,0 +1,15 @@
+pub mod Words
+pub mod Pages
+pub mod Scans
+pub mod Exports
+pub mod Gate
+pub mod Counts
+pub mod Small
+pub mod Functions
+pub mod Tied
+pub mod After
+pub mod Plays
+pub mod Paused
+pub mod Driving
+pub mod Earned
+pub mod Example

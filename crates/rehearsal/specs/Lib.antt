@@ -1,0 +1,5 @@
+pub mod Small
+pub mod Rehearsal
+pub mod Driver
+pub mod Promises
+pub mod Example
