@@ -1,5 +1,6 @@
 //! The inputs: all that a call is lent.
 
+use chirpsteeple_tests::bench::LAST_EPOCH;
 use chirpsteeple_tests::random::Random;
 
 pub const PAGES: usize = 4096;
@@ -20,6 +21,8 @@ const STAMPED: u64 = 1 << 16;
 pub const MIGRATED: u64 = 1 << 32;
 /// A spare bit, which makes a record strange.
 pub const SPARE: u64 = 1 << 63;
+/// The record of a page that is blocked, and not tracked since.
+pub const UNTRACKED: u64 = 1 | TLB << 16;
 
 /// A record in this state, Dirty and Cached clear, with stamp and migration epoch where a history leaves them.
 pub fn record(state: u64) -> u64 {
@@ -32,7 +35,7 @@ pub fn record(state: u64) -> u64 {
 pub struct Guest {
     pub session: Vec<u8>,
     pub table: Vec<u8>,
-    /// As many entries as the largest table has pages, 512 to a list; empty for a call that takes none.
+    /// As many entries as the table has pages; empty for a call that takes none.
     pub list: Vec<u8>,
     pub buffer: Vec<u8>,
 }
@@ -48,11 +51,33 @@ impl Guest {
         Guest { session: bytes(&session), table: bytes(&table), list: Vec::new(), buffer: Vec::new() }
     }
 
-    /// Its check is at this page, and complete if that is the page count.
-    pub fn checked_to(mut self, page: usize) -> Guest {
-        let complete = 16 * page == self.table.len();
-        self.session[40..56].copy_from_slice(&bytes(&[page as u64, complete as u64]));
+    pub fn pages(&self) -> usize {
+        self.table.len() / 16
+    }
+
+    fn with_session_word(mut self, index: usize, word: u64) -> Guest {
+        self.session[8 * index..][..8].copy_from_slice(&word.to_le_bytes());
         self
+    }
+
+    /// Its check is at this page, and complete if that is the page count.
+    pub fn checked_to(self, page: usize) -> Guest {
+        let complete = page == self.pages();
+        self.with_session_word(5, page as u64).with_session_word(6, complete as u64)
+    }
+
+    /// Its first stream is interrupted.
+    pub fn interrupted(self) -> Guest {
+        self.with_session_word(8, 1)
+    }
+
+    pub fn at_the_last_epochs(self) -> Guest {
+        self.with_session_word(2, LAST_EPOCH).with_session_word(3, LAST_EPOCH)
+    }
+
+    /// The session's last word fits no stream.
+    pub fn malformed(self) -> Guest {
+        self.with_session_word(47, 1)
     }
 
     pub fn with_last_record(mut self, record: u64) -> Guest {
@@ -63,15 +88,15 @@ impl Guest {
 
     /// With lists in which nothing is written yet.
     pub fn with_lists(mut self) -> Guest {
-        self.list = bytes(&[7; PAGES]);
+        self.list = bytes(&vec![7; self.pages()]);
         self
     }
 
     /// With lists that ask for each page in turn, and buffers.
     pub fn with_entries(mut self) -> Guest {
-        let entries: Vec<u64> = (0..PAGES as u64).map(|page| 1 << 52 | page << 12).collect();
+        let entries: Vec<u64> = (0..self.pages() as u64).map(|page| 1 << 52 | page << 12).collect();
         self.list = bytes(&entries);
-        self.buffer = bytes(&[7; PAGES]);
+        self.buffer = bytes(&vec![7; self.pages()]);
         self
     }
 
@@ -88,7 +113,7 @@ fn bytes(words: &[u64]) -> Vec<u8> {
     words.iter().flat_map(|word| word.to_le_bytes()).collect()
 }
 
-/// The part of a guest's lists or buffers that the call number `index` is lent.
-pub fn part(lists: &mut [u8], index: u64) -> &mut [u8] {
-    &mut lists[8 * ENTRIES * index as usize..][..8 * ENTRIES]
+/// The part of a guest's lists or buffers that the call number `index` is lent, if each is lent so many entries.
+pub fn part(lists: &mut [u8], index: u64, entries: usize) -> &mut [u8] {
+    &mut lists[8 * entries * index as usize..][..8 * entries]
 }
