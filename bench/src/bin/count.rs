@@ -1,0 +1,46 @@
+//! For bench/count: makes each row's calls once, between two marks that are seen in the emulator's log, first those of the library, then those of straightforward Rust. Prints a line for each row: how many calls each of the two made, and its name.
+
+use chirpsteeple_bench::guests::Guest;
+use chirpsteeple_bench::rows::rows;
+use chirpsteeple_bench::work::{keep, Answer, Meter, Work};
+
+/// So many calls of a row are made, where it has as many: with those on one page, not every page's.
+const CALLS: u64 = 16;
+
+fn main() {
+    rows(&mut Counted);
+}
+
+struct Counted;
+
+impl Meter for Counted {
+    fn row<A: Answer>(
+        &mut self,
+        work: Work,
+        (library, rust): (impl Fn(&mut Guest, u64) -> A, impl Fn(&mut Guest, u64) -> A),
+    ) {
+        let calls = work.steps.min(CALLS);
+        let guests = work.given.into_iter().take(1).collect();
+        let work = Work { given: guests, steps: calls, ..work };
+        work.compare(&library, &rust);
+        marked(&work, library);
+        marked(&work, rust);
+        println!("{calls}\t{}", work.name);
+    }
+}
+
+fn marked<A: Answer>(work: &Work, call: impl Fn(&mut Guest, u64) -> A) {
+    let mut guest = work.given[0].clone();
+    chirpsteeple_mark();
+    for step in 0..work.steps {
+        keep(call(&mut guest, step).code());
+    }
+    chirpsteeple_mark();
+}
+
+/// Does nothing; bench/count looks for its name.
+#[no_mangle]
+#[inline(never)]
+extern "C" fn chirpsteeple_mark() {
+    keep(0);
+}
