@@ -3,10 +3,10 @@
  *
  * One guest of 1 to 4,096 private pages of 4 KiB; page i has byte address 4,096*i. The bench keeps nothing of its own: session, table, list and
  * buffer are bytes that the caller lends for the time of a call. All numbers in them are little-endian; a word is 8 bytes, at any alignment. A call
- * takes less than 96 KiB of its thread's stack.
+ * takes less than 8 KiB of its thread's stack.
  *
- * A slice is a pointer and a length in bytes. No two slices of a call may overlap, and none may be null with a length other than 0: nothing can
- * test that. Every other operand may be anything and gets an answer.
+ * A slice is a pointer and a length in bytes; it is const where no call of the kind changes it. No two slices of a call may overlap, and none may be
+ * null with a length other than 0: nothing can test that. Every other operand may be anything and gets an answer.
  *
  * A refused call (codes 40 to 50 and 52 to 56) writes no byte anywhere. It answers its code; all other numbers in its answer are 0, but the page
  * for 53 and 54. The codes of a call stand below in the order in which they are tested: the first that applies is the answer.
@@ -181,25 +181,25 @@ uint64_t chirp_new(uint8_t *session, size_t session_len, uint8_t *table, size_t 
  * The guest writes mark to the page. In 4, 24, 25: the mark is stored; Dirty is set only if Cached is clear; then Cached is set. In 1 and 26 with
  * Cached set the mark is stored and nothing else changes. 45: any other case.
  */
-uint64_t chirp_write(uint8_t *session, size_t session_len, uint8_t *table, size_t table_len, uint64_t page, uint64_t mark);
+uint64_t chirp_write(const uint8_t *session, size_t session_len, uint8_t *table, size_t table_len, uint64_t page, uint64_t mark);
 
 /* The host adds a page: 0 becomes 2. Mark, Dirty, Cached and stamp become 0; the migration epoch stays. 45: any other state. */
-uint64_t chirp_add(uint8_t *session, size_t session_len, uint8_t *table, size_t table_len, uint64_t page);
+uint64_t chirp_add(const uint8_t *session, size_t session_len, uint8_t *table, size_t table_len, uint64_t page);
 
 /* The guest accepts it: 2 becomes 4; 29 and 30 become 25. Mark, Dirty, Cached and stamp become 0; the migration epoch stays. 45: any other state. */
-uint64_t chirp_accept(uint8_t *session, size_t session_len, uint8_t *table, size_t table_len, uint64_t page);
+uint64_t chirp_accept(const uint8_t *session, size_t session_len, uint8_t *table, size_t table_len, uint64_t page);
 
 /* 4 becomes 1, 2 becomes 3, 24 and 25 become 26, 29 and 30 become 31; stamp = TLB epoch; all else stays. 45: any other state. */
-uint64_t chirp_block(uint8_t *session, size_t session_len, uint8_t *table, size_t table_len, uint64_t page);
+uint64_t chirp_block(const uint8_t *session, size_t session_len, uint8_t *table, size_t table_len, uint64_t page);
 
 /* 1 becomes 4, 3 becomes 2, 26 becomes 25, 31 becomes 30; stamp 0; all else stays. 46: any other state. 47: stamp 0 or not below the TLB epoch. */
-uint64_t chirp_unblock(uint8_t *session, size_t session_len, uint8_t *table, size_t table_len, uint64_t page);
+uint64_t chirp_unblock(const uint8_t *session, size_t session_len, uint8_t *table, size_t table_len, uint64_t page);
 
 /*
  * 1 and 3 become 0, 26 and 31 become 27; mark, Dirty, Cached and stamp become 0; the migration epoch stays. 46: any other state.
  * 47: stamp 0 or not below the TLB epoch.
  */
-uint64_t chirp_remove(uint8_t *session, size_t session_len, uint8_t *table, size_t table_len, uint64_t page);
+uint64_t chirp_remove(const uint8_t *session, size_t session_len, uint8_t *table, size_t table_len, uint64_t page);
 
 /*
  * Tracking with all processors interrupted: the TLB epoch plus one, and Cached cleared on every page that is not strange; all else stays.
@@ -231,10 +231,10 @@ uint64_t chirp_pause(uint8_t *session, size_t session_len, uint8_t *table, size_
 uint64_t chirp_abort(uint8_t *session, size_t session_len, uint8_t *table, size_t table_len);
 
 /* The migration epoch plus one; all else, and the whole table, stays. 40. 41: Idle or Done. 43: some stream interrupted. 55: epoch 65,535. 0. */
-uint64_t chirp_new_epoch(uint8_t *session, size_t session_len, uint8_t *table, size_t table_len);
+uint64_t chirp_new_epoch(uint8_t *session, size_t session_len, const uint8_t *table, size_t table_len);
 
 /* The check back to page 0, neither complete nor failed; all else, and the whole table, stays. 40. 41: Idle or Done. 0. */
-uint64_t chirp_reset(uint8_t *session, size_t session_len, uint8_t *table, size_t table_len);
+uint64_t chirp_reset(uint8_t *session, size_t session_len, const uint8_t *table, size_t table_len);
 
 /*
  * Blackout to Done, if every page is free (0), or exported and clean (24 or 29 without Dirty); nothing but the phase changes.
@@ -242,7 +242,7 @@ uint64_t chirp_reset(uint8_t *session, size_t session_len, uint8_t *table, size_
  * 40. 41: not Blackout. 43: some stream interrupted. 52: check not complete. 53: a page in 25, 26, 27, 30, 31, or in 24 or 29 with Dirty.
  * 54: a page in 1 to 4, or strange. 0. The answer's page is the lowest one that 53 or 54 speaks of.
  */
-chirp_token_answer chirp_start_token(uint8_t *session, size_t session_len, uint8_t *table, size_t table_len);
+chirp_token_answer chirp_start_token(uint8_t *session, size_t session_len, const uint8_t *table, size_t table_len);
 
 /* ---- Scans ---- */
 
@@ -262,7 +262,7 @@ chirp_token_answer chirp_start_token(uint8_t *session, size_t session_len, uint8
  * 40. 41: not Live. 42: the part is empty or not within the table; list not in whole words, or above 512.
  * Then at each page: 0 past the end, 1 if the budget is spent, 2 if the page is to be listed and there is no room (it is not touched then).
  */
-chirp_scan_answer chirp_dscan(uint8_t *session, size_t session_len, uint8_t *table, size_t table_len,
+chirp_scan_answer chirp_dscan(const uint8_t *session, size_t session_len, uint8_t *table, size_t table_len,
                               uint64_t first, uint64_t count, uint8_t *list, size_t list_len, uint64_t budget);
 
 /*

@@ -48,7 +48,7 @@ fn on_page(
 }
 
 #[inline(never)]
-pub fn write(session: &mut [u8], table: &mut [u8], page: u64, mark: u64) -> u64 {
+pub fn write(session: &[u8], table: &mut [u8], page: u64, mark: u64) -> u64 {
     code(Session::open(session, table, &GUEST).and_then(|_| {
         on_page(table, page, EPT_ENTRY_STATE_INCORRECT, |state, Page { record, .. }| {
             let cached = record & CACHED != 0;
@@ -68,7 +68,7 @@ fn cleared(state: u8, found: Page) -> Page {
 }
 
 #[inline(never)]
-pub fn add(session: &mut [u8], table: &mut [u8], page: u64) -> u64 {
+pub fn add(session: &[u8], table: &mut [u8], page: u64) -> u64 {
     code(Session::open(session, table, &GUEST).and_then(|_| {
         on_page(table, page, EPT_ENTRY_STATE_INCORRECT, |state, found| match state {
             0 => Ok(cleared(2, found)),
@@ -78,7 +78,7 @@ pub fn add(session: &mut [u8], table: &mut [u8], page: u64) -> u64 {
 }
 
 #[inline(never)]
-pub fn accept(session: &mut [u8], table: &mut [u8], page: u64) -> u64 {
+pub fn accept(session: &[u8], table: &mut [u8], page: u64) -> u64 {
     code(Session::open(session, table, &GUEST).and_then(|_| {
         on_page(table, page, EPT_ENTRY_STATE_INCORRECT, |state, found| match state {
             2 => Ok(cleared(4, found)),
@@ -89,7 +89,7 @@ pub fn accept(session: &mut [u8], table: &mut [u8], page: u64) -> u64 {
 }
 
 #[inline(never)]
-pub fn block(session: &mut [u8], table: &mut [u8], page: u64) -> u64 {
+pub fn block(session: &[u8], table: &mut [u8], page: u64) -> u64 {
     // 49 takes 41's place in Blackout alone.
     let opened = Session::open(session, table, &[Phase::Idle, Phase::Live, Phase::Blackout]);
     code(opened.and_then(|session| {
@@ -129,7 +129,7 @@ fn on_blocked_page(
 }
 
 #[inline(never)]
-pub fn unblock(session: &mut [u8], table: &mut [u8], page: u64) -> u64 {
+pub fn unblock(session: &[u8], table: &mut [u8], page: u64) -> u64 {
     let moved = |state| match state {
         1 => Some(4),
         3 => Some(2),
@@ -144,7 +144,7 @@ pub fn unblock(session: &mut [u8], table: &mut [u8], page: u64) -> u64 {
 }
 
 #[inline(never)]
-pub fn remove(session: &mut [u8], table: &mut [u8], page: u64) -> u64 {
+pub fn remove(session: &[u8], table: &mut [u8], page: u64) -> u64 {
     let moved = |state| match state {
         1 | 3 => Some(0),
         26 | 31 => Some(27),

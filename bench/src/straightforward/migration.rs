@@ -64,7 +64,7 @@ pub fn abort(session: &mut [u8], table: &mut [u8]) -> u64 {
 }
 
 #[inline(never)]
-pub fn new_epoch(session: &mut [u8], table: &mut [u8]) -> u64 {
+pub fn new_epoch(session: &mut [u8], table: &[u8]) -> u64 {
     code(Session::open(session, table, &[Phase::Live, Phase::Blackout]).and_then(|opened| {
         if opened.busy {
             return Err(OPERAND_BUSY);
@@ -78,7 +78,7 @@ pub fn new_epoch(session: &mut [u8], table: &mut [u8]) -> u64 {
 }
 
 #[inline(never)]
-pub fn start_token(session: &mut [u8], table: &mut [u8]) -> TokenAnswer {
+pub fn start_token(session: &mut [u8], table: &[u8]) -> TokenAnswer {
     let opened = match Session::open(session, table, &[Phase::Blackout]) {
         Ok(opened) => opened,
         Err(code) => return TokenAnswer { code, page: 0 },

@@ -15,14 +15,7 @@ fn list_invalid(list: &[u8]) -> bool {
 }
 
 #[inline(never)]
-pub fn dscan(
-    session: &mut [u8],
-    table: &mut [u8],
-    first: u64,
-    count: u64,
-    list: &mut [u8],
-    budget: u64,
-) -> ScanAnswer {
+pub fn dscan(session: &[u8], table: &mut [u8], first: u64, count: u64, list: &mut [u8], budget: u64) -> ScanAnswer {
     let opened = match Session::open(session, table, &[Phase::Live]) {
         Ok(opened) => opened,
         Err(code) => return refused(code),
@@ -58,7 +51,7 @@ pub fn dcheck(session: &mut [u8], table: &mut [u8], list: &mut [u8], budget: u64
 }
 
 #[inline(never)]
-pub fn reset(session: &mut [u8], table: &mut [u8]) -> u64 {
+pub fn reset(session: &mut [u8], table: &[u8]) -> u64 {
     code(Session::open(session, table, &[Phase::Live, Phase::Blackout]).map(|_| reset_check(session)))
 }
 

@@ -66,14 +66,14 @@ impl<'a> From<&'a mut [u8]> for Slice<'a> {
     }
 }
 
-/// Each function is declared, and wrapped: its slices, its numbers, and for DSCAN, whose list stands between its numbers, the list and the last number.
+/// Each function is declared, and wrapped: its slices with what it may do to their bytes, its numbers, and for DSCAN, whose list stands between its numbers, the list and the last number.
 macro_rules! functions {
     ($($name:ident is $symbol:ident(
-        $($slice:ident),*; $($number:ident),* $(; $list:ident; $last:ident)?
+        $($access:tt $slice:ident),*; $($number:ident),* $(; $list:ident; $last:ident)?
     ) -> $answer:ty;)*) => {
         extern "C" {
             $(fn $symbol(
-                $($slice: *mut u8, _: usize,)* $($number: u64,)* $($list: *mut u8, _: usize, $last: u64)?
+                $($slice: *$access u8, _: usize,)* $($number: u64,)* $($list: *mut u8, _: usize, $last: u64)?
             ) -> $answer;)*
         }
         $(
@@ -96,21 +96,21 @@ macro_rules! functions {
 }
 
 functions! {
-    new is chirp_new(session, table; streams) -> u64;
-    write is chirp_write(session, table; page, mark) -> u64;
-    add is chirp_add(session, table; page) -> u64;
-    accept is chirp_accept(session, table; page) -> u64;
-    block is chirp_block(session, table; page) -> u64;
-    unblock is chirp_unblock(session, table; page) -> u64;
-    remove is chirp_remove(session, table; page) -> u64;
-    track is chirp_track(session, table;) -> u64;
-    start is chirp_start(session, table;) -> u64;
-    pause is chirp_pause(session, table;) -> u64;
-    abort is chirp_abort(session, table;) -> u64;
-    new_epoch is chirp_new_epoch(session, table;) -> u64;
-    reset is chirp_reset(session, table;) -> u64;
-    start_token is chirp_start_token(session, table;) -> TokenAnswer;
-    dscan is chirp_dscan(session, table; first, count; list; budget) -> ScanAnswer;
-    dcheck is chirp_dcheck(session, table, list; budget) -> ScanAnswer;
-    export is chirp_export(session, table, list, buffer; stream, resume, info, budget) -> ExportAnswer;
+    new is chirp_new(mut session, mut table; streams) -> u64;
+    write is chirp_write(const session, mut table; page, mark) -> u64;
+    add is chirp_add(const session, mut table; page) -> u64;
+    accept is chirp_accept(const session, mut table; page) -> u64;
+    block is chirp_block(const session, mut table; page) -> u64;
+    unblock is chirp_unblock(const session, mut table; page) -> u64;
+    remove is chirp_remove(const session, mut table; page) -> u64;
+    track is chirp_track(mut session, mut table;) -> u64;
+    start is chirp_start(mut session, mut table;) -> u64;
+    pause is chirp_pause(mut session, mut table;) -> u64;
+    abort is chirp_abort(mut session, mut table;) -> u64;
+    new_epoch is chirp_new_epoch(mut session, const table;) -> u64;
+    reset is chirp_reset(mut session, const table;) -> u64;
+    start_token is chirp_start_token(mut session, const table;) -> TokenAnswer;
+    dscan is chirp_dscan(const session, mut table; first, count; list; budget) -> ScanAnswer;
+    dcheck is chirp_dcheck(mut session, mut table, mut list; budget) -> ScanAnswer;
+    export is chirp_export(mut session, mut table, mut list, mut buffer; stream, resume, info, budget) -> ExportAnswer;
 }
