@@ -1,4 +1,4 @@
-#define _POSIX_C_SOURCE 200809L
+#define _XOPEN_SOURCE 700
 #include "check.h"
 
 #include <setjmp.h>
@@ -66,9 +66,12 @@ static bool passes(const struct test *test)
 
 int run_tests(const struct test *tests, unsigned count)
 {
-    struct sigaction action = {.sa_handler = faulted};
+    static uint8_t stack[64 * 1024]; /* for the handler: a fault may mean that the test's own is at its end */
+    stack_t handlers = {.ss_sp = stack, .ss_size = sizeof stack};
+    struct sigaction action = {.sa_handler = faulted, .sa_flags = SA_ONSTACK};
     unsigned passed = 0;
     setvbuf(stdout, NULL, _IOLBF, 0); /* what was said is kept if a test ends the program */
+    sigaltstack(&handlers, NULL);
     sigaction(SIGSEGV, &action, NULL);
     sigaction(SIGBUS, &action, NULL);
     for (unsigned i = 0; i < count; i++)

@@ -1,7 +1,5 @@
-/* Every call once and done, on slices that end at the last byte of their memory. */
+/* Every call once and done, on slices that lie at an end of their memory, and with little stack. */
 #include "tests.h"
-
-#include <pthread.h>
 
 enum { SMALL = 2, LARGE = CHIRP_MAX_PAGES };
 
@@ -85,6 +83,10 @@ static void every_call(struct bench bench)
     expect_code(TRACK, &bench, CHIRP_DONE);
     export_all(&bench);
     finish(&bench);
+    CHECK(unwritten_around(&bench.session));
+    CHECK(unwritten_around(&bench.table));
+    CHECK(unwritten_around(&bench.list));
+    CHECK(unwritten_around(&bench.buffer));
     free_bench(&bench);
 }
 
@@ -106,28 +108,23 @@ void every_call_at_odd_addresses(void)
             every_call(heap_bench(tables[i], list_for(tables[i]), offset));
 }
 
-void every_call_before_a_guard_page(void)
+/* At every distance from a word's bound. */
+static void every_call_mapped(bool from_start)
 {
     for (unsigned i = 0; i < TABLES; i++)
-        every_call(mapped_bench(tables[i], list_for(tables[i])));
+        for (size_t distance = 0; distance < CHIRP_WORD_BYTES; distance++)
+            every_call(mapped_bench(tables[i], list_for(tables[i]), (struct place){distance, from_start}));
 }
 
-static void *on_the_thread(void *unused)
-{
-    every_call_on_the_heap();
-    return unused;
-}
+void every_call_before_a_guard_page(void) { every_call_mapped(false); }
+void every_call_behind_a_guard_page(void) { every_call_mapped(true); }
 
-/* What docs/HOST.md says of the stack. */
-void every_call_on_a_stack_of_96_KiB(void)
+/* What the header says of the stack. */
+void every_call_on_a_stack_of_8_KiB(void)
 {
-    pthread_attr_t attributes;
-    pthread_t thread;
-    EQUAL((uint64_t)pthread_attr_init(&attributes), 0);
-    EQUAL((uint64_t)pthread_attr_setstacksize(&attributes, 96 * 1024), 0);
-    int failure = pthread_create(&thread, &attributes, on_the_thread, NULL);
-    EQUAL((uint64_t)failure, 0);
-    if (!failure)
-        EQUAL((uint64_t)pthread_join(thread, NULL), 0);
-    pthread_attr_destroy(&attributes);
+    for (unsigned i = 0; i < TABLES; i++) {
+        struct bench bench = heap_bench(tables[i], list_for(tables[i]), 0);
+        bench.on_small_stack = true;
+        every_call(bench);
+    }
 }

@@ -5,8 +5,7 @@
 #include <stdlib.h>
 #include <string.h>
 #include <sys/mman.h>
-
-enum { OS_PAGE = 4096 };
+#include <ucontext.h>
 
 const char *const call_names[CALLS] = {
     "new", "write", "add", "accept", "block", "unblock", "remove", "track", "start", "pause", "abort", "new epoch", "reset", "start token", "dscan",
@@ -22,10 +21,11 @@ static void *or_end(void *memory)
     return memory;
 }
 
-static void protect(uint8_t *memory, size_t length, int protection)
+/* Memory of whole pages with one before it and one behind it that cannot be touched. */
+static uint8_t *guarded(size_t length)
 {
-    if (mprotect(memory, length, protection) != 0)
-        or_end(NULL);
+    uint8_t *memory = or_end(mmap(NULL, length + 2 * OS_PAGE, PROT_NONE, MAP_PRIVATE | MAP_ANONYMOUS, -1, 0));
+    return mprotect(memory + OS_PAGE, length, PROT_READ | PROT_WRITE) == 0 ? memory + OS_PAGE : or_end(NULL);
 }
 
 struct slice heap_slice(size_t length, size_t offset)
@@ -36,24 +36,38 @@ struct slice heap_slice(size_t length, size_t offset)
     return (struct slice){.bytes = memory + offset, .length = length, .memory = memory};
 }
 
-struct slice mapped_slice(size_t length)
+static const uint8_t AROUND = 0xa5;
+
+struct slice mapped_slice(size_t length, struct place place)
 {
-    size_t usable = (length + OS_PAGE - 1) / OS_PAGE * OS_PAGE;
-    uint8_t *memory = or_end(mmap(NULL, usable + OS_PAGE, PROT_READ | PROT_WRITE, MAP_PRIVATE | MAP_ANONYMOUS, -1, 0));
-    protect(memory + usable, OS_PAGE, PROT_NONE);
-    return (struct slice){.bytes = memory + usable - length, .length = length, .memory = memory, .mapped = usable + OS_PAGE};
+    size_t pages = (length + place.distance + OS_PAGE - 1) / OS_PAGE, mapped = (pages > 0 ? pages : 1) * OS_PAGE;
+    uint8_t *memory = guarded(mapped);
+    uint8_t *bytes = place.from_start ? memory + place.distance : memory + mapped - place.distance - length;
+    memset(memory, AROUND, mapped);
+    memset(bytes, 0, length);
+    return (struct slice){.bytes = bytes, .length = length, .memory = memory, .mapped = mapped};
 }
 
-void make_read_only(const struct slice *slice)
+bool unwritten_around(const struct slice *slice)
 {
-    if (slice->mapped > OS_PAGE)
-        protect(slice->memory, slice->mapped - OS_PAGE, PROT_READ);
+    for (uint8_t *byte = slice->memory; byte < slice->memory + slice->mapped; byte++)
+        if ((byte < slice->bytes || byte >= slice->bytes + slice->length) && *byte != AROUND)
+            return false;
+    return true;
 }
+
+void protect_pages(const struct slice *slice, size_t first, size_t count, int protection)
+{
+    if (count > 0 && mprotect(slice->memory + first * OS_PAGE, count * OS_PAGE, protection) != 0)
+        or_end(NULL);
+}
+
+void protect(const struct slice *slice, int protection) { protect_pages(slice, 0, slice->mapped / OS_PAGE, protection); }
 
 void free_slice(struct slice *slice)
 {
     if (slice->mapped)
-        munmap(slice->memory, slice->mapped);
+        munmap(slice->memory - OS_PAGE, slice->mapped + 2 * OS_PAGE);
     else
         free(slice->memory);
     *slice = (struct slice){0};
@@ -77,13 +91,13 @@ struct bench heap_bench(size_t pages, size_t entries, size_t offset)
     });
 }
 
-struct bench mapped_bench(size_t pages, size_t entries)
+struct bench mapped_bench(size_t pages, size_t entries, struct place place)
 {
     return with_operands((struct bench){
-        .session = mapped_slice(CHIRP_SESSION_BYTES),
-        .table = mapped_slice(pages * CHIRP_PAGE_BYTES),
-        .list = mapped_slice(entries * CHIRP_WORD_BYTES),
-        .buffer = mapped_slice(entries * CHIRP_WORD_BYTES),
+        .session = mapped_slice(CHIRP_SESSION_BYTES, place),
+        .table = mapped_slice(pages * CHIRP_PAGE_BYTES, place),
+        .list = mapped_slice(entries * CHIRP_WORD_BYTES, place),
+        .buffer = mapped_slice(entries * CHIRP_WORD_BYTES, place),
     });
 }
 
@@ -94,6 +108,9 @@ void free_bench(struct bench *bench)
     free_slice(&bench->list);
     free_slice(&bench->buffer);
 }
+
+void set_session(struct bench *bench, size_t word, uint64_t value) { put_word(bench->session.bytes, word, value); }
+void set_record(struct bench *bench, uint64_t page, uint64_t record) { put_word(bench->table.bytes, 2 * page, record); }
 
 static struct answer scan_answer(chirp_scan_answer answer) { return (struct answer){answer.code, {answer.next, answer.first, answer.last}}; }
 
@@ -111,7 +128,7 @@ static struct answer list_answer(enum call call, const struct bench *bench)
     return (struct answer){answer.code, {answer.info, answer.errors, answer.buffers}};
 }
 
-struct answer answer_of(enum call call, const struct bench *bench)
+static struct answer called(enum call call, const struct bench *bench)
 {
     chirp_token_answer token;
     switch (call) {
@@ -131,4 +148,36 @@ struct answer answer_of(enum call call, const struct bench *bench)
     case START_TOKEN: token = chirp_start_token(BOTH); return (struct answer){token.code, {token.page, 0, 0}};
     default: return list_answer(call, bench);
     }
+}
+
+/* What is called on the small stack, and its answer: a context takes no pointers. */
+static struct {
+    enum call call;
+    const struct bench *bench;
+    struct answer answer;
+} on_stack;
+
+static void call_on_stack(void) { on_stack.answer = called(on_stack.call, on_stack.bench); }
+
+static struct answer called_on_small_stack(enum call call, const struct bench *bench)
+{
+    enum { BYTES = 8 * 1024 };
+    static uint8_t *stack;
+    static ucontext_t here, there;
+    if (stack == NULL)
+        stack = guarded(BYTES);
+    getcontext(&there);
+    there.uc_stack.ss_sp = stack;
+    there.uc_stack.ss_size = BYTES;
+    there.uc_link = &here;
+    makecontext(&there, call_on_stack, 0);
+    on_stack.call = call;
+    on_stack.bench = bench;
+    swapcontext(&here, &there);
+    return on_stack.answer;
+}
+
+struct answer answer_of(enum call call, const struct bench *bench)
+{
+    return bench->on_small_stack ? called_on_small_stack(call, bench) : called(call, bench);
 }

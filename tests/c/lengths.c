@@ -94,13 +94,26 @@ void lengths_of_sessions_and_tables(void)
     free_bench(&bench);
 }
 
-/* Gives the bench a list and a buffer of these lengths, exactly allocated, filled with 1 bits. */
-static void lend(struct bench *bench, size_t list, size_t buffer, size_t offset)
+/* Where lists and buffers lie: on the heap with an offset, or in mapped memory. */
+struct memory {
+    bool mapped;
+    struct place place;
+};
+
+static struct memory on_the_heap(size_t offset) { return (struct memory){.place = {.distance = offset}}; }
+
+static struct slice slice_in(struct memory memory, size_t length)
+{
+    return memory.mapped ? mapped_slice(length, memory.place) : heap_slice(length, memory.place.distance);
+}
+
+/* Gives the bench a list and a buffer of these lengths, with no byte to spare, filled with 1 bits. */
+static void lend(struct bench *bench, size_t list, size_t buffer, struct memory memory)
 {
     free_slice(&bench->list);
     free_slice(&bench->buffer);
-    bench->list = heap_slice(list, offset);
-    bench->buffer = heap_slice(buffer, offset);
+    bench->list = slice_in(memory, list);
+    bench->buffer = slice_in(memory, buffer);
     if (list > 0)
         memset(bench->list.bytes, 0xff, list);
     if (buffer > 0)
@@ -132,34 +145,56 @@ static void expect_dirty(struct bench *bench, uint64_t words)
 static const uint64_t list_words[] = {0, 1, 255, 256, 257, 511, 512};
 enum { LISTS = sizeof list_words / sizeof *list_words };
 
-void lists_of_every_length(void)
+static void expect_unwritten_around(const struct bench *bench)
+{
+    CHECK(unwritten_around(&bench->list));
+    CHECK(unwritten_around(&bench->buffer));
+}
+
+/* Exports, checks and scans with lists and buffers of all these lengths. */
+static void lists_in(struct memory memory)
 {
     struct bench live = live_bench(), paused = blackout_bench();
-    for (size_t offset = 0; offset < 2; offset++)
-        for (unsigned i = 0; i < LISTS; i++) {
-            uint64_t words = list_words[i], bytes = words * CHIRP_WORD_BYTES;
-            lend(&live, bytes, bytes, offset);
-            if (words > 0)
-                expect_dirty(&live, words);
-            lend(&paused, bytes, 0, offset);
-            expect_code(RESET, &paused, CHIRP_DONE);
-            expect_filled(DCHECK, &paused, words, 0);
-        }
     for (unsigned i = 0; i < LISTS; i++) {
-        lend(&live, list_words[i] * CHIRP_WORD_BYTES, 0, 1);
+        uint64_t words = list_words[i], bytes = words * CHIRP_WORD_BYTES;
+        lend(&live, bytes, bytes, memory);
+        if (words > 0)
+            expect_dirty(&live, words);
+        expect_unwritten_around(&live);
+        lend(&paused, bytes, 0, memory);
+        expect_code(RESET, &paused, CHIRP_DONE);
+        expect_filled(DCHECK, &paused, words, 0);
+        expect_unwritten_around(&paused);
+    }
+    for (unsigned i = 0; i < LISTS; i++) {
+        lend(&live, list_words[i] * CHIRP_WORD_BYTES, 0, memory);
         live.first = PAGES - CHIRP_MAX_ENTRIES - 1;
         live.count = CHIRP_MAX_ENTRIES + 1;
         expect_filled(DSCAN, &live, list_words[i], live.first);
+        expect_unwritten_around(&live);
     }
     free_bench(&live);
     free_bench(&paused);
 }
 
+void lists_of_every_length(void)
+{
+    for (size_t offset = 0; offset < 2; offset++)
+        lists_in(on_the_heap(offset));
+}
+
+void lists_beside_a_guard_page(void)
+{
+    for (size_t distance = 0; distance < CHIRP_WORD_BYTES; distance++)
+        for (unsigned from_start = 0; from_start < 2; from_start++)
+            lists_in((struct memory){true, {distance, from_start}});
+}
+
 /* All three calls that take a list refuse one of this many bytes. */
 static void expect_refused_list(struct bench *live, struct bench *paused, size_t bytes, size_t offset)
 {
-    lend(live, bytes, bytes, offset);
-    lend(paused, bytes, bytes, offset);
+    lend(live, bytes, bytes, on_the_heap(offset));
+    lend(paused, bytes, bytes, on_the_heap(offset));
     live->info = info_for(0, 0);
     paused->info = live->info;
     expect_refusal(DSCAN, live, CHIRP_OPERAND_INVALID);
@@ -185,7 +220,7 @@ void buffers_of_another_length(void)
     static const size_t buffers[] = {0, 1, 4087, 4088, 4095, 4097, 4104};
     struct bench live = live_bench();
     for (unsigned i = 0; i < sizeof buffers / sizeof *buffers; i++) {
-        lend(&live, CHIRP_MAX_ENTRIES * CHIRP_WORD_BYTES, buffers[i], 0);
+        lend(&live, CHIRP_MAX_ENTRIES * CHIRP_WORD_BYTES, buffers[i], on_the_heap(0));
         live.info = info_for(0, 0);
         expect_refusal(EXPORT, &live, CHIRP_OPERAND_INVALID);
     }

@@ -37,15 +37,21 @@ int main(void)
         TEST(every_call_on_the_heap),
         TEST(every_call_at_odd_addresses),
         TEST(every_call_before_a_guard_page),
+        TEST(every_call_behind_a_guard_page),
+        TEST(every_call_on_a_stack_of_8_KiB),
         TEST(null_pointers_with_length_0),
         TEST(lengths_of_sessions_and_tables),
         TEST(lists_of_every_length),
+        TEST(lists_beside_a_guard_page),
         TEST(ragged_lists),
         TEST(buffers_of_another_length),
         TEST(refused_calls_on_read_only_memory),
+        TEST(other_refused_calls_look_at_no_page_without_need),
         TEST(one_page_calls_touch_their_page_alone),
         TEST(a_page_beyond_the_table_touches_nothing),
-        TEST(every_call_on_a_stack_of_96_KiB), /* the last, since a stack that is too small ends the program */
+        TEST(session_calls_change_no_byte_of_the_table),
+        TEST(scans_touch_the_pages_that_they_visit),
+        TEST(exports_touch_the_pages_that_their_entries_name),
     };
     return run_tests(tests, sizeof tests / sizeof *tests);
 }

@@ -1,4 +1,7 @@
-/* Memory that must not be touched cannot be: a refused call writes no byte, and a call on one page looks at no other. */
+/*
+ * Memory that must not be touched cannot be: a refused call writes no byte, a call on one page looks at no other and changes no byte of the session, and
+ * those on the session change no byte of the table.
+ */
 #define _GNU_SOURCE
 #include "tests.h"
 
@@ -10,9 +13,6 @@
 
 /* Pages of the bench that is refused; it is Live, TLB epoch 2, migration epoch 1. */
 enum { MAPPED, PENDING, FREE, BLOCKED, PAGES };
-
-static void set_session(struct bench *bench, size_t word, uint64_t value) { put_word(bench->session.bytes, word, value); }
-static void set_record(struct bench *bench, uint64_t page, uint64_t record) { put_word(bench->table.bytes, 2 * page, record); }
 
 static void as_it_is(struct bench *bench) { (void)bench; }
 static void session_damaged(struct bench *bench) { set_session(bench, CHIRP_SESSION_TLB_EPOCH, 0); }
@@ -92,7 +92,7 @@ struct refusal {
     uint64_t page; /* in the answer, for 53 and 54 */
 };
 
-/* Beside 40 for a damaged session and 41 in Done, which every call but New has. */
+/* Beside those of expect_refused_early. */
 static const struct refusal refusals[] = {
     {NEW, 40, session_short, 0}, {NEW, 40, table_ragged, 0}, {NEW, 42, one_stream, 0},
     {WRITE, 42, page_beyond, 0}, {WRITE, 45, page_free, 0}, {WRITE, 45, page_pending, 0},
@@ -115,7 +115,7 @@ static const struct refusal refusals[] = {
 
 static struct bench refused_bench(void)
 {
-    struct bench bench = mapped_bench(PAGES, 2);
+    struct bench bench = mapped_bench(PAGES, 2, (struct place){0});
     expect_code(NEW, &bench, CHIRP_DONE);
     set_session(&bench, CHIRP_SESSION_PHASE, CHIRP_PHASE_LIVE);
     set_session(&bench, CHIRP_SESSION_TLB_EPOCH, 2);
@@ -127,34 +127,57 @@ static struct bench refused_bench(void)
     return bench;
 }
 
-static void expect_refused(struct refusal refusal)
+static void expect_refused(struct refusal refusal, int table)
 {
     struct bench bench = refused_bench();
     refusal.prepare(&bench);
-    make_read_only(&bench.session);
-    make_read_only(&bench.table);
-    make_read_only(&bench.list);
-    make_read_only(&bench.buffer);
+    protect(&bench.session, PROT_READ);
+    protect(&bench.table, table);
+    protect(&bench.list, PROT_READ);
+    protect(&bench.buffer, PROT_READ);
     expect_answer(refusal.call, &bench, (struct answer){refusal.code, {refusal.page, 0, 0}});
     free_bench(&bench);
 }
 
+/* 40 and 41, which every call but New has. */
+static void expect_refused_early(enum call call, int table)
+{
+    expect_refused((struct refusal){call, CHIRP_MALFORMED, session_damaged, 0}, table);
+    expect_refused((struct refusal){call, CHIRP_MALFORMED, session_short, 0}, table);
+    expect_refused((struct refusal){call, CHIRP_MALFORMED, table_short, 0}, table);
+    expect_refused((struct refusal){call, CHIRP_MALFORMED, table_ragged, 0}, table);
+    expect_refused((struct refusal){call, CHIRP_OP_STATE_INCORRECT, in_done, 0}, table);
+}
+
 void refused_calls_on_read_only_memory(void)
 {
-    for (enum call call = WRITE; call < CALLS; call++) {
-        expect_refused((struct refusal){call, CHIRP_MALFORMED, session_damaged, 0});
-        expect_refused((struct refusal){call, CHIRP_MALFORMED, session_short, 0});
-        expect_refused((struct refusal){call, CHIRP_MALFORMED, table_short, 0});
-        expect_refused((struct refusal){call, CHIRP_MALFORMED, table_ragged, 0});
-        expect_refused((struct refusal){call, CHIRP_OP_STATE_INCORRECT, in_done, 0});
-    }
+    for (enum call call = WRITE; call < CALLS; call++)
+        expect_refused_early(call, PROT_READ);
     for (unsigned i = 0; i < sizeof refusals / sizeof *refusals; i++)
-        expect_refused(refusals[i]);
+        expect_refused(refusals[i], PROT_READ);
+}
+
+/* Whether some page has a part in the refusal: pause looks for blocked pages before it asks for streams. */
+static bool is_for_a_page(const struct refusal *refusal)
+{
+    switch (refusal->code) {
+    case 45: case 48: case 53: case 54: return true;
+    case 43: return refusal->call == PAUSE;
+    default: return false;
+    }
+}
+
+/* Of the calls on one page each may read its page before it is refused. */
+void other_refused_calls_look_at_no_page_without_need(void)
+{
+    for (enum call call = TRACK; call < CALLS; call++)
+        expect_refused_early(call, PROT_NONE);
+    for (unsigned i = 0; i < sizeof refusals / sizeof *refusals; i++)
+        if (refusals[i].call >= TRACK && !is_for_a_page(&refusals[i]))
+            expect_refused(refusals[i], PROT_NONE);
 }
 
 /* ---- Calls on one page ---- */
-
-enum { OS_PAGE = 4096, PAGES_IN_OS_PAGE = OS_PAGE / CHIRP_PAGE_BYTES };
 
 struct move {
     enum call call;
@@ -177,32 +200,26 @@ static const struct move moves[] = {
     {REMOVE, 2 << 16 | CHIRP_STATE_BLOCKED, 47, 2 << 16 | CHIRP_STATE_BLOCKED},
 };
 
-/* The largest table, at the start of its memory, and so at the start of an operating system's page. */
+/* The largest table, Idle. Its session may only be read: no call on one page changes it. */
 static struct bench large_bench(void)
 {
-    struct bench bench = mapped_bench(CHIRP_MAX_PAGES, 0);
-    CHECK((uintptr_t)bench.table.bytes % OS_PAGE == 0);
+    struct bench bench = mapped_bench(CHIRP_MAX_PAGES, 0, (struct place){0});
     expect_code(NEW, &bench, CHIRP_DONE);
     set_session(&bench, CHIRP_SESSION_TLB_EPOCH, 2);
+    protect(&bench.session, PROT_READ);
     return bench;
-}
-
-static void protect_table(const struct bench *bench, int protection)
-{
-    CHECK(mprotect(bench->table.bytes, bench->table.length, protection) == 0);
 }
 
 /* Calls with all of the table out of reach but the operating system's page that holds the bench's page. */
 static void expect_move(struct bench *bench, const struct move *move)
 {
-    uint8_t *reachable = bench->table.bytes + bench->page / PAGES_IN_OS_PAGE * OS_PAGE;
     uint64_t mark = bench->mark = 77 + bench->page;
     set_record(bench, bench->page, move->before);
     put_word(bench->table.bytes, 2 * bench->page + 1, 5);
-    protect_table(bench, PROT_NONE);
-    CHECK(mprotect(reachable, OS_PAGE, PROT_READ | PROT_WRITE) == 0);
+    protect(&bench->table, PROT_NONE);
+    protect_pages(&bench->table, bench->page / PAGES_IN_OS_PAGE, 1, PROT_READ | PROT_WRITE);
     expect_code(move->call, bench, move->code);
-    protect_table(bench, PROT_READ | PROT_WRITE);
+    protect(&bench->table, PROT_READ | PROT_WRITE);
     EQUAL(record_at(bench->table.bytes, bench->page), move->after);
     uint64_t kept = move->code != 0 || move->call == BLOCK || move->call == UNBLOCK ? 5 : 0;
     EQUAL(mark_at(bench->table.bytes, bench->page), move->call == WRITE && move->code == 0 ? mark : kept);
@@ -211,8 +228,7 @@ static void expect_move(struct bench *bench, const struct move *move)
 void one_page_calls_touch_their_page_alone(void)
 {
     struct bench bench = large_bench();
-    uint8_t session[CHIRP_SESSION_BYTES], *others = calloc(1, bench.table.length);
-    memcpy(session, bench.session.bytes, sizeof session);
+    uint8_t *others = calloc(1, bench.table.length);
     for (uint64_t os_page = 0; os_page < CHIRP_MAX_PAGES / PAGES_IN_OS_PAGE; os_page++)
         for (unsigned last = 0; last < 2; last++)
             for (unsigned i = 0; i < sizeof moves / sizeof *moves; i++) {
@@ -221,7 +237,6 @@ void one_page_calls_touch_their_page_alone(void)
                 set_record(&bench, bench.page, 0);
                 put_word(bench.table.bytes, 2 * bench.page + 1, 0);
                 CHECK(memcmp(bench.table.bytes, others, bench.table.length) == 0);
-                CHECK(memcmp(bench.session.bytes, session, sizeof session) == 0);
             }
     free(others);
     free_bench(&bench);
@@ -231,11 +246,28 @@ void a_page_beyond_the_table_touches_nothing(void)
 {
     static const uint64_t beyond[] = {CHIRP_MAX_PAGES, CHIRP_MAX_PAGES + 1, UINT64_C(1) << 60, UINT64_C(1) << 63, UINT64_MAX};
     struct bench bench = large_bench();
-    protect_table(&bench, PROT_NONE);
+    protect(&bench.table, PROT_NONE);
     for (unsigned i = 0; i < sizeof beyond / sizeof *beyond; i++)
         for (enum call call = WRITE; call <= REMOVE; call++) {
             bench.page = beyond[i];
             expect_code(call, &bench, CHIRP_OPERAND_INVALID);
         }
+    free_bench(&bench);
+}
+
+/* ---- Calls on the session ---- */
+
+void session_calls_change_no_byte_of_the_table(void)
+{
+    struct bench bench = refused_bench();
+    protect(&bench.table, PROT_READ);
+    expect_code(NEW_EPOCH, &bench, CHIRP_DONE);
+    expect_code(RESET, &bench, CHIRP_DONE);
+    protect(&bench.table, PROT_READ | PROT_WRITE);
+    check_complete(&bench);
+    for (uint64_t page = 0; page < PAGES; page++)
+        set_record(&bench, page, CHIRP_STATE_EXPORTED);
+    protect(&bench.table, PROT_READ);
+    expect_code(START_TOKEN, &bench, CHIRP_DONE);
     free_bench(&bench);
 }
