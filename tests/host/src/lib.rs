@@ -16,6 +16,7 @@ pub mod large;
 pub mod library;
 pub mod lines;
 pub mod lists;
+pub mod memory;
 pub mod play;
 pub mod reached;
 pub mod replay;
