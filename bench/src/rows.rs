@@ -6,7 +6,8 @@ use crate::work::{Meter, Work};
 use chirpsteeple_tests::bench::codes::*;
 use host_tests::interface;
 
-/// The same call of the library and of straightforward Rust: by its name and its numbers where it is lent session and table, else written out, with the name that stands for either.
+/// The same call of the library and of straightforward Rust: by its name and its numbers where it is lent session and table, else written out, with the
+/// name that stands for either.
 macro_rules! both {
     ($call:ident($step:pat_param => $($number:expr),*)) => {
         both!(calls, |guest, $step| calls::$call(&mut guest.session[..], &mut guest.table[..], $($number),*))
@@ -189,7 +190,8 @@ fn short_lists(meter: &mut impl Meter, size: &str, guests: impl Fn(u64) -> Vec<G
     meter.row(Work { steps: checks.steps - 1, ..checks }, dcheck);
 }
 
-/// Calls that are refused before they look at more than a page, one for each code; the page is the last. `guest` makes a guest of pages with one record, with a list and a buffer.
+/// Calls that are refused before they look at more than a page, one for each code; the page is the last. `guest` makes a guest of pages with one
+/// record, with a list and a buffer.
 fn refusals(meter: &mut impl Meter, size: &str, guest: impl Fn(u64, u64) -> Guest) {
     let work = |call: &str, given: Guest, code| Work {
         name: format!("{call} refused, {code} ({size})"),

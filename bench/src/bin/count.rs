@@ -1,4 +1,5 @@
-//! For bench/count: makes each row's calls once, between two marks that are seen in the emulator's log, first those of the library, then those of straightforward Rust. Prints a line for each row: how many calls each of the two made, and its name.
+//! For bench/count: makes each row's calls once, between two marks that are seen in the emulator's log, first those of the library, then those of
+//! straightforward Rust. Prints a line for each row: how many calls each of the two made, and its name.
 
 use chirpsteeple_bench::guests::Guest;
 use chirpsteeple_bench::rows::rows;

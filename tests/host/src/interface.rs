@@ -66,7 +66,8 @@ impl<'a> From<&'a mut [u8]> for Slice<'a> {
     }
 }
 
-/// Each function is declared, and wrapped: its slices with what it may do to their bytes, its numbers, and for DSCAN, whose list stands between its numbers, the list and the last number.
+/// Each function is declared, and wrapped: its slices with what it may do to their bytes, its numbers, and for DSCAN, whose list stands between its
+/// numbers, the list and the last number.
 macro_rules! functions {
     ($($name:ident is $symbol:ident(
         $($access:tt $slice:ident),*; $($number:ident),* $(; $list:ident; $last:ident)?

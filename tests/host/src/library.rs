@@ -15,7 +15,8 @@ pub struct Library {
 }
 
 impl Bench for Library {
-    /// Each slice lies at an end of its memory, where a touch of what is behind or before it ends the program: at one end and the other by turns, and at every distance from a word's bound.
+    /// Each slice lies at an end of its memory, where a touch of what is behind or before it ends the program: at one end and the other by turns, and
+    /// at every distance from a word's bound.
     fn call(&mut self, call: Call, lent: &mut Lent) -> Answer {
         self.calls += 1;
         let (distance, at_end) = (self.calls % WORD, self.calls / WORD % 2 == 0);
