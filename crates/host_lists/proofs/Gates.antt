@@ -7,7 +7,6 @@ use Prim.Native.Nat.{ℕ, _/_}
 use native.Mathlib.Omega.{arith}
 use lib.Dec.{eqb}
 use lib.ListN.{length}
-use borrow.Author.Tests.{eqb-true}
 use Rattle.words.specs.Codes as codes
 use Rattle.refusals.specs.Refusals.{Test, _gives_, firstOf}
 use Rattle.refusals.proofs.Laws.{and-left, and-right, not-true, allCodes, first-all}
@@ -21,7 +20,7 @@ use Rattle.calls.specs.Promises.{refusal}
 use Rattle.calls.specs.declared.Call.{Call}
 use Rattle.wire.specs.Bytes.{wordsOf}
 use Rattle.wire.specs.Sessions.{sessionOf}
-use Rattle.host.specs.Host.{Lent, Left, inWords, refused, played, hostOf}
+use Rattle.host.specs.Host.{Lent, inWords, refused, played, hostOf}
 use Rattle.host.specs.Inside.{ComesIn}
 use Rattle.host.proofs.LayoutLaws.{Sound, table-formed, played-refused, sound-layout, host-played}
 use Rattle.host.proofs.ListLaws.{no-list}

@@ -1,9 +1,9 @@
 -- A call that takes a list and is not refused leaves what the engine's run leaves, in bytes: no code of a run is a refusal's, so each slice has the bytes of
 -- the words that were made, and the session those of its change.
-use mathlib.Core.Path.{_≡_, refl, sym, ap}
+use mathlib.Core.Path.{_≡_, refl}
 use mathlib.Core.Bool.{Bool, true, false, not, and-true}
 use mathlib.Core.List.{List, [], _∷_}
-use Prim.Native.Nat.{ℕ, _-_, _/_}
+use Prim.Native.Nat.{ℕ, _-_}
 use lib.Dec.{eqb}
 use lib.ListN.{length}
 use Rattle.words.specs.Info.{infoOf}

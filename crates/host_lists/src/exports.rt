@@ -4,7 +4,6 @@ ghost use mathlib.Core.Bool.{true, _&&_};
 ghost use Prim.Native.Nat.{_*_, _/_};
 ghost use lib.Dec.{eqb, leb};
 ghost use lib.ListN.{length};
-ghost use Rattle.words.specs.Info.{infoOf};
 ghost use Rattle.entry.specs.Entry.{groundOf};
 ghost use Rattle.calls.specs.declared.Call.the-variants.{Export};
 ghost use Rattle.wire.specs.Bytes.{wordsOf};

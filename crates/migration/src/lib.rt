@@ -1,9 +1,6 @@
 // The calls on every page, the calls on the session alone, and in its own module the start token.
 ghost use mathlib.Core.Path.{_≡_};
 ghost use mathlib.Core.Bool.{_&&_};
-ghost use mathlib.Core.List.{[]};
-ghost use Rattle.session.specs.Session.{phasesOf};
-ghost use Rattle.session.specs.Formed.{gated};
 ghost use Rattle.migration.specs.Migration.{sweepWhen, stopsAt, stopped, sweepVerdict, onAll};
 ghost use Rattle.migration.specs.Migration.{aloneWhen, aloneVerdict, aloneAnswer};
 use page::Clock;

@@ -22,7 +22,6 @@ use Rattle.scan.specs.Scan.{stopTests, stopCode, endCode, ScanOut, scanR
 use Rattle.scan.specs.Scan.{dscanOut, dcheckCode, dcheckOf, checkedBy, dcheckOut}
 use Rattle.scan.specs.declared.Scan.{Scan}
 use Rattle.scan.specs.declared.Scanned.{Scanned}
-use Rattle.scan.specs.declared.ScanAnswer.{ScanAnswer}
 use Rattle.scan.proofs.Laws.{dscan-fits, dcheck-fits}
 use Rattle.scan.proofs.RangeLaws.{range-strange}
 

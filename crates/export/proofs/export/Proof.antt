@@ -4,7 +4,6 @@ use mathlib.Core.Path.{_≡_, refl, sym, ap, _∙_}
 use lib.ListN.{length}
 use denote.Ref.{now}
 use borrow.Author.Tests.{eq-eqb, ne-eqb}
-use Rattle.words.specs.Info.{infoOf}
 use Rattle.session.specs.Session.{workOf}
 use Rattle.session.proofs.Laws.{below-next}
 use Rattle.lists.specs.Run.{standing}

@@ -1,6 +1,5 @@
 -- What the call comes to is by the gate's code and by what was looked for, and the end of the call answers it.
 use borrow.Author.Needs.{needs}
-use mathlib.Core.Path.{_∙_}
 use denote.Ref.{now}
 use borrow.Author.Tests.{eq-eqb}
 use Rattle.migration.proofs.Laws.{sweep-told}

@@ -1,6 +1,5 @@
 -- The answer is what the call comes to from its gate's code.
 use borrow.Author.Needs.{needs}
-use mathlib.Core.Path.{_∙_}
 use Rattle.migration.proofs.Laws.{alone-told}
 use Rattle.migration.proofs.on_session.Statement.{statement}
 use Rattle.migration.proofs.on_session.Tie as tie

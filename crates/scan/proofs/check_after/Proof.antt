@@ -1,5 +1,4 @@
 -- The definition, written out.
-use borrow.Author.Needs.{needs}
 use mathlib.Core.Path.{refl}
 use Rattle.scan.proofs.check_after.Statement.{statement}
 use Rattle.scan.proofs.check_after.Tie as tie

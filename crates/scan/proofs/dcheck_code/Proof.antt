@@ -1,5 +1,4 @@
 -- Each way out is the definition at the tests that led there, the gate's first.
-use borrow.Author.Needs.{needs}
 use borrow.Author.Tests.{eq-eqb, ne-eqb}
 use Rattle.scan.proofs.dcheck_code.Statement.{statement}
 use Rattle.scan.proofs.dcheck_code.Tie as tie

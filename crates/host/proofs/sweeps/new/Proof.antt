@@ -1,6 +1,6 @@
 -- In the layouts what is left is by the code (`new-left`), and else 40.
 use borrow.Author.Needs.{needs}
-use mathlib.Core.Path.{_≡_, refl, ap, _∙_}
+use mathlib.Core.Path.{refl, _∙_}
 use lib.Dec.{eqb}
 use lib.ListN.{length, replicate}
 use Prim.Native.Nat.{_/_}

@@ -1,12 +1,10 @@
 -- Past 40 what is left is by the verdict (`alone-left`), and else 40.
 use borrow.Author.Needs.{needs}
-use mathlib.Core.Path.{_≡_, refl, sym, _∙_}
+use mathlib.Core.Path.{refl, sym, _∙_}
 use native.Mathlib.Omega.{arith}
 use lib.ListN.{length}
 use denote.Ref.{now}
 use Rattle.calls.specs.declared.Call.the-variants.{OnSession}
-use Rattle.wire.specs.Bytes.{wordsOf}
-use Rattle.wire.specs.Sessions.{sessionOf}
 use Rattle.host.specs.Host.{lent}
 use Rattle.host.proofs.LayoutLaws.{Sound, sound-means, host-refused}
 use Rattle.host.proofs.TablesLaws.{alone-left}

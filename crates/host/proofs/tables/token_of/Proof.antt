@@ -1,6 +1,6 @@
 -- Past 40 the gate asks for the phase alone, and what is looked for is what the token asks for.
 use borrow.Author.Needs.{needs}
-use mathlib.Core.Path.{refl, sym, _∙_}
+use mathlib.Core.Path.{sym, _∙_}
 use mathlib.Core.List.{[]}
 use lib.ListN.{length}
 use borrow.Author.Tests.{eq-eqb, le-leb}

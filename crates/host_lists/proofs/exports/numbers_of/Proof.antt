@@ -1,5 +1,4 @@
 -- The definition, written out.
-use borrow.Author.Needs.{needs}
 use mathlib.Core.Path.{refl}
 use Rattle.host_lists.proofs.exports.numbers_of.Statement.{statement}
 use Rattle.host_lists.proofs.exports.numbers_of.Tie as tie

@@ -1,7 +1,7 @@
 -- The code is that of the tests (`coded`): a refusal, or the run in its place (`dcheck-ran`).
 use borrow.Author.Needs.{needs}
 use mathlib.Core.Path.{_≡_, refl, sym, ap, _∙_}
-use mathlib.Core.Bool.{true, false}
+use mathlib.Core.Bool.{true}
 use mathlib.Core.List.{[], _∷_}
 use Prim.Native.Nat.{ℕ, _-_, _≤_}
 use native.Mathlib.Omega.{arith}
@@ -15,7 +15,7 @@ use Rattle.scan.specs.Scan.{dcheckCode, dcheckTests}
 use Rattle.session.specs.declared.Check.{Check}
 use Rattle.scan.proofs.Laws.{Fits, dcheck-fits}
 use Rattle.calls.specs.declared.Call.the-variants.{Dcheck}
-use Rattle.wire.specs.Bytes.{wordsOf, bytesOf, Bytes}
+use Rattle.wire.specs.Bytes.{wordsOf, Bytes}
 use Rattle.wire.specs.Sessions.{sessionOf}
 use Rattle.wire.proofs.BytesLaws.{words-length}
 use Rattle.host.specs.Host.{lentList, refused, inWords, hostOf}

@@ -1,5 +1,4 @@
 -- Each way out is the definition at the tests that led there.
-use borrow.Author.Needs.{needs}
 use borrow.Author.Tests.{eq-eqb, ne-eqb, lt-ltb, le-ltb}
 use Rattle.migration.specs.Token.{tokenTold}
 use Rattle.migration.proofs.token.token_of.Statement.{statement}
