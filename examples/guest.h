@@ -33,7 +33,10 @@ static inline uint64_t draw(struct guest *guest, uint64_t bound)
     return (guest->random >> 16) % bound;
 }
 
-/* Whether the page may answer 45 to its guest: blocked by the host, or removed and not yet cancelled at the destination. */
+/*
+ * Whether the page may answer 45 to its guest: blocked by the host; removed, and not yet cancelled at the destination; or pending, and left exported
+ * by an abort, so that it cannot be accepted before it is restored.
+ */
 static inline bool out_of_reach(const struct guest *guest, uint64_t page)
 {
     switch (state_at(guest->table, page)) {
@@ -42,6 +45,8 @@ static inline bool out_of_reach(const struct guest *guest, uint64_t page)
     case CHIRP_STATE_EXPORTED_BLOCKED:
     case CHIRP_STATE_PENDING_EXPORTED_BLOCKED:
     case CHIRP_STATE_EXPORTED_REMOVED: return true;
+    case CHIRP_STATE_PENDING_EXPORTED:
+    case CHIRP_STATE_PENDING_EXPORTED_MODIFIED: return word_at(guest->session, CHIRP_SESSION_PHASE) == CHIRP_PHASE_IDLE;
     default: return false;
     }
 }

@@ -32,7 +32,7 @@ static inline unsigned state_at(const uint8_t *table, uint64_t page) { return ta
 
 static inline uint64_t field(uint64_t word, unsigned low, unsigned width) { return word >> low & ((UINT64_C(1) << width) - 1); }
 
-/* An entry that asks for the export of a page. */
+/* An entry that asks for the export of a page, or in a restore for its return: OPERATION is 1 in both. */
 static inline uint64_t entry_for(uint64_t page) { return UINT64_C(1) << 52 | page << 12; }
 
 static inline unsigned entry_pending(uint64_t entry) { return (unsigned)field(entry, 2, 1); }

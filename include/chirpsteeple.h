@@ -116,28 +116,34 @@ enum {
 };
 
 /*
- * A list: words, each an entry. Lists have at most 512 entries. Beside it stands the buffer, one word an entry: the contents that go with it.
+ * A list: words, each an entry. Lists have at most 512 entries. Beside an export's list stands the buffer, one word an entry: the contents that go
+ * with it.
  *
  *   bits 1:0    LEVEL       must be 0
- *   bit  2      PENDING     the page has no contents yet; ignored on the way into an export
- *   bits 4:3    STATE       a scan's hint; ignored on the way into an export, which returns 0
+ *   bit  2      PENDING     the page has no contents yet; ignored on the way in
+ *   bits 4:3    STATE       a scan's hint; ignored on the way into an export, which returns 0; must be 0 on the way into a restore
  *   bits 6:5    reserved    must be 0
- *   bits 9:7    L2_MAP      ignored on the way into an export, which returns 0
+ *   bits 9:7    L2_MAP      ignored on the way in; an export returns 0
  *   bits 11:10  MIG_TYPE    must be 0
  *   bits 51:12  GPA         the page's number, which is bits 51:12 of its byte address: page 5 is 0x5000, and not 5
- *   bits 53:52  OPERATION   on the way into an export: 0 skip, 1 export; on the way out: what was done
+ *   bits 53:52  OPERATION   on the way into an export: 0 skip, 1 export; into a restore: 0 and 2 skip, 1 and 3 restore; on the way out: what was done
  *   bits 55:54  reserved    must be 0
- *   bits 60:56  STATUS      ignored on the way into an export
+ *   bits 60:56  STATUS      ignored on the way in
  *   bits 63:61  reserved    must be 0
  *
  * STATE, the hint.
  */
 enum { CHIRP_HINT_NOT_EXPORTED = 0, CHIRP_HINT_EXPORTED_MODIFIED = 1, CHIRP_HINT_EXPORTED_BLOCKED = 2, CHIRP_HINT_EXPORTED_REMOVED = 3 };
 
-/* OPERATION. MIGRATE and REMIGRATE make the page present at the destination, pending or with the buffer's word; CANCEL makes it absent. */
+/*
+ * OPERATION of an export. MIGRATE and REMIGRATE make the page present at the destination, pending or with the buffer's word; CANCEL makes it absent.
+ */
 enum { CHIRP_OPERATION_NOP = 0, CHIRP_OPERATION_MIGRATE = 1, CHIRP_OPERATION_CANCEL = 2, CHIRP_OPERATION_REMIGRATE = 3 };
 
-/* STATUS, in the order in which it is tested. */
+/* OPERATION of a restore: this or NOP. On the way in 3 is RESTORE as well, and 2 is NOP; out come 1 and 0 alone. */
+enum { CHIRP_OPERATION_RESTORE = 1 };
+
+/* STATUS of an export, in the order in which it is tested. A restore gives 15, 1, 2, 4 and 0 by tests of its own: see chirp_restore. */
 enum {
     CHIRP_STATUS_GPA_LIST_ENTRY_INVALID = 15,    /* reserved bits, LEVEL or MIG_TYPE not 0, or OPERATION 2 or 3 */
     CHIRP_STATUS_SKIPPED = 1,                    /* OPERATION 0; no error */
@@ -150,10 +156,10 @@ enum {
 };
 
 /*
- * The info word of an export.
+ * The info word of an export or a restore.
  *
  *   bits 2:0    FORMAT   must be 0
- *   bits 11:3   FIRST    the entry to begin with: 0 in a new call, the answer's in a resumed one
+ *   bits 11:3   FIRST    the entry to begin with: 0 in a new export, the answer's in a resumed one; in a restore any up to LAST
  *   bits 51:12  HPA      ignored, and returned as it came
  *   bits 54:52  zero     must be 0
  *   bits 63:55  LAST     the last entry of the operation
@@ -162,6 +168,7 @@ enum {
 typedef struct { uint64_t code, page; } chirp_token_answer;                  /* page: for 53 and 54 */
 typedef struct { uint64_t code, next, first, last; } chirp_scan_answer;      /* next page; first and last entry written */
 typedef struct { uint64_t code, info, errors, buffers; } chirp_export_answer;
+typedef struct { uint64_t code, info; } chirp_list_answer;                   /* of a restore */
 
 /* ---- Guest and memory calls ---- */
 
@@ -173,7 +180,8 @@ typedef struct { uint64_t code, info, errors, buffers; } chirp_export_answer;
 uint64_t chirp_new(uint8_t *session, size_t session_len, uint8_t *table, size_t table_len, uint64_t streams);
 
 /*
- * The six calls on one page touch that page alone, and change no byte of the session. They come in Idle and Live.
+ * The six calls on one page touch that page alone, and change no byte of the session. They come in Idle and Live. In Idle a page in 24 to 27 or 29
+ * to 31 waits for chirp_restore: write goes there as in Live, the other five are 45.
  * 40. 41: Blackout or Done (block: 49 in Blackout, 41 in Done). 42: page beyond the table. Then as said with each; then 0.
  */
 
@@ -186,18 +194,27 @@ uint64_t chirp_write(const uint8_t *session, size_t session_len, uint8_t *table,
 /* The host adds a page: 0 becomes 2. Mark, Dirty, Cached and stamp become 0; the migration epoch stays. 45: any other state. */
 uint64_t chirp_add(const uint8_t *session, size_t session_len, uint8_t *table, size_t table_len, uint64_t page);
 
-/* The guest accepts it: 2 becomes 4; 29 and 30 become 25. Mark, Dirty, Cached and stamp become 0; the migration epoch stays. 45: any other state. */
+/*
+ * The guest accepts it: 2 becomes 4; in Live also 29 and 30, which become 25. Mark, Dirty, Cached and stamp become 0; the migration epoch stays.
+ * 45: any other state.
+ */
 uint64_t chirp_accept(const uint8_t *session, size_t session_len, uint8_t *table, size_t table_len, uint64_t page);
 
-/* 4 becomes 1, 2 becomes 3, 24 and 25 become 26, 29 and 30 become 31; stamp = TLB epoch; all else stays. 45: any other state. */
+/*
+ * 4 becomes 1, 2 becomes 3; in Live also 24 and 25, which become 26, and 29 and 30, which become 31. Stamp = TLB epoch; all else stays.
+ * 45: any other state.
+ */
 uint64_t chirp_block(const uint8_t *session, size_t session_len, uint8_t *table, size_t table_len, uint64_t page);
 
-/* 1 becomes 4, 3 becomes 2, 26 becomes 25, 31 becomes 30; stamp 0; all else stays. 46: any other state. 47: stamp 0 or not below the TLB epoch. */
+/*
+ * 1 becomes 4, 3 becomes 2; in Live also 26, which becomes 25, and 31, which becomes 30. Stamp 0; all else stays.
+ * 45: in Idle, a page in 24 to 27 or 29 to 31. 46: any other state. 47: stamp 0 or not below the TLB epoch.
+ */
 uint64_t chirp_unblock(const uint8_t *session, size_t session_len, uint8_t *table, size_t table_len, uint64_t page);
 
 /*
- * 1 and 3 become 0, 26 and 31 become 27; mark, Dirty, Cached and stamp become 0; the migration epoch stays. 46: any other state.
- * 47: stamp 0 or not below the TLB epoch.
+ * 1 and 3 become 0; in Live also 26 and 31, which become 27. Mark, Dirty, Cached and stamp become 0; the migration epoch stays.
+ * 45: in Idle, a page in 24 to 27 or 29 to 31. 46: any other state. 47: stamp 0 or not below the TLB epoch.
  */
 uint64_t chirp_remove(const uint8_t *session, size_t session_len, uint8_t *table, size_t table_len, uint64_t page);
 
@@ -211,7 +228,7 @@ uint64_t chirp_track(uint8_t *session, size_t session_len, uint8_t *table, size_
 
 /*
  * Idle to Live: migration epoch 1, check reset, streams at rest; every page's migration epoch 0, and stamp 0 except in 1 and 3; all else stays.
- * 40. 41: not Idle. 45: some page in a state above 4, or strange. 0.
+ * 40. 41: not Idle. 45: some page in a state above 4, or strange; so after an abort until chirp_restore has brought every page back. 0.
  */
 uint64_t chirp_start(uint8_t *session, size_t session_len, uint8_t *table, size_t table_len);
 
@@ -223,12 +240,11 @@ uint64_t chirp_start(uint8_t *session, size_t session_len, uint8_t *table, size_
 uint64_t chirp_pause(uint8_t *session, size_t session_len, uint8_t *table, size_t table_len);
 
 /*
- * Live or Blackout to Idle. 24 and 25 become 4; 29 and 30 become 2; 26 becomes 1; 31 becomes 3; 27 becomes 0; then of every page that is not strange
- * the migration epoch is 0, and the stamp 0 except in 1 and 3; marks, Dirty and Cached stay. Session: migration epoch 0, streams at rest, check
- * reset; all else stays.
+ * Live or Blackout to Idle: migration epoch 0, streams at rest, check reset; all else, and the whole table, stays. No page is looked at: what was
+ * exported is left as it is, for chirp_restore.
  * 40. 41: Idle or Done. 0.
  */
-uint64_t chirp_abort(uint8_t *session, size_t session_len, uint8_t *table, size_t table_len);
+uint64_t chirp_abort(uint8_t *session, size_t session_len, const uint8_t *table, size_t table_len);
 
 /* The migration epoch plus one; all else, and the whole table, stays. 40. 41: Idle or Done. 43: some stream interrupted. 55: epoch 65,535. 0. */
 uint64_t chirp_new_epoch(uint8_t *session, size_t session_len, const uint8_t *table, size_t table_len);
@@ -297,6 +313,30 @@ chirp_scan_answer chirp_dcheck(uint8_t *session, size_t session_len, uint8_t *ta
 chirp_export_answer chirp_export(uint8_t *session, size_t session_len, uint8_t *table, size_t table_len,
                                  uint8_t *list, size_t list_len, uint8_t *buffer, size_t buffer_len,
                                  uint64_t stream, uint64_t resume, uint64_t info, uint64_t budget);
+
+/* ---- Restore ---- */
+
+/*
+ * Take back what was exported of the pages that the entries FIRST to LAST of the list name, in Idle. There is no stream and no buffer, and the
+ * session is only read: it keeps no record of the call. Each entry costs 1 of the budget. A list that an export returned can be given as it is; in
+ * one of a scan the hints have to be taken out.
+ * 40. 41: not Idle. 42: list not in whole words, empty or above 512; FORMAT or bits 54:52 not 0; LAST not within the list; FIRST above LAST. Then 0
+ * if all entries are done, 1 if the budget is spent first: budget 0 is 1, and nothing changes.
+ *
+ * The status of an entry is the first of these that holds:
+ *   15  reserved bits, LEVEL, MIG_TYPE or STATE not 0, whatever the OPERATION
+ *    1  OPERATION 0 or 2
+ *    2  the page is beyond the table
+ *    4  the page is in 0 to 4, also if an entry before has brought it back, or strange
+ *    0  24 and 25 become 4; 29 and 30 become 2; 26 becomes 1; 31 becomes 3; 27 becomes 0
+ * With status 0 the page's migration epoch becomes 0, and its stamp 0 except in what is now 1 or 3; mark, Dirty and Cached stay. Any other status
+ * changes no page, and a page that no entry taken names is not touched.
+ * Of each entry taken: OPERATION is 1 with status 0, else 0; STATUS; the rest as it came. Entries not taken stay.
+ *
+ * The answer's info is the info word given, with FIRST the next entry: at the end (LAST+1) mod 512. With code 1 call again with the answer's info.
+ */
+chirp_list_answer chirp_restore(const uint8_t *session, size_t session_len, uint8_t *table, size_t table_len,
+                                uint8_t *list, size_t list_len, uint64_t info, uint64_t budget);
 
 #ifdef __cplusplus
 }

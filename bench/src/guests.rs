@@ -101,7 +101,7 @@ impl Guest {
     }
 
     /// As `given` is, without a new allocation.
-    pub fn restore(&mut self, given: &Guest) {
+    pub fn copy_from(&mut self, given: &Guest) {
         self.session.copy_from_slice(&given.session);
         self.table.copy_from_slice(&given.table);
         self.list.copy_from_slice(&given.list);

@@ -44,7 +44,7 @@ impl Meter for Times {
 /// The time of all calls once, on guests as they were given.
 fn sample<A: Answer>(work: &Work, guests: &mut [Guest], call: &impl Fn(&mut Guest, u64) -> A) -> Duration {
     for (guest, given) in guests.iter_mut().zip(&work.given) {
-        guest.restore(given);
+        guest.copy_from(given);
     }
     let begun = Instant::now();
     for guest in guests {

@@ -41,8 +41,9 @@ pub fn rows(meter: &mut impl Meter) {
         tokens(meter, pages);
     }
     for (name, guests, pages) in SIZES {
-        short_lists(meter, name, |phase| vec![Guest::new(phase, pages, &[record(4)]).with_entries(); guests]);
-        refusals(meter, name, |phase, record| Guest::new(phase, pages, &[record]).with_entries());
+        let guest = |phase, record| Guest::new(phase, pages, &[record]).with_entries();
+        short_lists(meter, name, |phase, record| vec![guest(phase, record); guests]);
+        refusals(meter, name, guest);
     }
 }
 
@@ -96,6 +97,9 @@ fn blind(meter: &mut impl Meter) {
     meter.row(work("new (4,096 pages)", 1), both!(new(_ => 9)));
     meter.row(work("new epoch", 256), both!(new_epoch(_ =>)));
     meter.row(work("reset", 256), both!(reset(_ =>)));
+    // A session takes one abort, so there are many; with small tables, so that all of them stay in the processor's caches.
+    let aborted = vec![Guest::new(LIVE, 16, &[record(24)]).checked_to(9); 64];
+    meter.row(Work { name: "abort".into(), given: aborted, steps: 1, code: DONE }, both!(abort(_ =>)));
 }
 
 /// The calls that change every page.
@@ -107,12 +111,11 @@ fn sweeps(meter: &mut impl Meter, pages: Pages) {
     meter.row(pages.work("track", pages.guest(LIVE, &met), DONE), both!(track(_ =>)));
     meter.row(pages.work("start", pages.guest(IDLE, &[4, 2, 0, 1, 3].map(record)), DONE), both!(start(_ =>)));
     meter.row(pages.work("pause", pages.guest(LIVE, &met), DONE), both!(pause(_ =>)));
-    meter.row(pages.work("abort", pages.guest(LIVE, &met), DONE), both!(abort(_ =>)));
     let blocked = pages.guest(LIVE, &met).with_last_record(record(1));
     meter.row(pages.work("pause refused, 48 at the last page", blocked, BLOCKED_MEMORY_EXISTS), both!(pause(_ =>)));
 }
 
-/// Scans of 4,096 pages, and exports of the pages in turn, 512 to a list.
+/// Scans of 4,096 pages, and exports and RESTOREs of the pages in turn, 512 to a list.
 fn lists(meter: &mut impl Meter, pages: Pages) {
     const PAGES: u64 = guests::PAGES as u64;
     let listed = [record(4), record(2), record(25), record(24) | DIRTY, record(27), record(30), record(29) | DIRTY];
@@ -146,13 +149,19 @@ fn lists(meter: &mut impl Meter, pages: Pages) {
         let (list, buffer) = (part(&mut guest.list, call, ENTRIES), part(&mut guest.buffer, call, ENTRIES));
         calls::export(&mut guest.session[..], &mut guest.table[..], list, buffer, 0, 0, 511 << 55, 512)
     });
+    let restore = both!(calls, |guest, call| {
+        let list = part(&mut guest.list, call, ENTRIES);
+        calls::restore(&mut guest.session[..], &mut guest.table[..], list, 511 << 55, 512)
+    });
     let exported = pages.guest(LIVE, &[4, 25].map(record)).with_entries();
+    let aborted = pages.guest(IDLE, &[24, 25, 26, 27, 29, 30, 31].map(record)).with_entries();
     let work = |name, phase, records: &[u64], code| pages.work(name, pages.guest(phase, records).with_lists(), code);
     meter.row(work("DSCAN, all listed", LIVE, &listed, DONE), dscan_all);
     meter.row(work("DSCAN, none listed", LIVE, &unlisted, DONE), dscan);
     meter.row(work("DCHECK, all listed", BLACKOUT, &listed, CHECK_COMPLETE), dcheck_all);
     meter.row(work("DCHECK, none listed", BLACKOUT, &unlisted, CHECK_COMPLETE), dcheck);
     meter.row(Work { steps: LISTS as u64, ..pages.work("export of 512 data entries", exported, DONE) }, export);
+    meter.row(Work { steps: LISTS as u64, ..pages.work("RESTORE of 512 entries", aborted, DONE) }, restore);
 }
 
 /// The token for a guest that is exported, but for its last page where it is refused.
@@ -166,10 +175,10 @@ fn tokens(meter: &mut impl Meter, pages: Pages) {
     row("token refused, 54 at the last page", record(4), UNEXPORTED_MEMORY_REMAINS);
 }
 
-/// Calls by list that list or take one page, for every page in turn. `guests` makes guests of mapped pages, with a list and a buffer.
-fn short_lists(meter: &mut impl Meter, size: &str, guests: impl Fn(u64) -> Vec<Guest>) {
-    let work = |name: &str, phase, code| {
-        let given = guests(phase);
+/// Calls by list that list or take one page, for every page in turn. `guests` makes guests of pages with one record, with a list and a buffer.
+fn short_lists(meter: &mut impl Meter, size: &str, guests: impl Fn(u64, u64) -> Vec<Guest>) {
+    let work = |name: &str, phase, state, code| {
+        let given = guests(phase, record(state));
         let steps = given[0].pages() as u64;
         Work { name: format!("{name} ({size})"), given, steps, code }
     };
@@ -177,16 +186,20 @@ fn short_lists(meter: &mut impl Meter, size: &str, guests: impl Fn(u64) -> Vec<G
         let (list, buffer) = (part(&mut guest.list, page, 1), part(&mut guest.buffer, page, 1));
         calls::export(&mut guest.session[..], &mut guest.table[..], list, buffer, 0, 0, 0, 1)
     });
+    let restore = both!(calls, |guest, page| {
+        calls::restore(&mut guest.session[..], &mut guest.table[..], part(&mut guest.list, page, 1), 0, 1)
+    });
     let dscan = both!(calls, |guest, page| {
         calls::dscan(&mut guest.session[..], &mut guest.table[..], page, 1, part(&mut guest.list, page, 1), 1)
     });
     let dcheck = both!(calls, |guest, page| {
         calls::dcheck(&mut guest.session[..], &mut guest.table[..], part(&mut guest.list, page, 1), PAGES as u64)
     });
-    meter.row(work("export of 1 entry", LIVE, DONE), export);
-    meter.row(work("DSCAN of 1 page", LIVE, DONE), dscan);
+    meter.row(work("export of 1 entry", LIVE, 4, DONE), export);
+    meter.row(work("RESTORE of 1 entry", IDLE, 24, DONE), restore);
+    meter.row(work("DSCAN of 1 page", LIVE, 4, DONE), dscan);
     // Each check stops at the page behind the one that it lists; behind the last page there is none.
-    let checks = work("DCHECK with room for 1", BLACKOUT, LIST_FULL);
+    let checks = work("DCHECK with room for 1", BLACKOUT, 4, LIST_FULL);
     meter.row(Work { steps: checks.steps - 1, ..checks }, dcheck);
 }
 

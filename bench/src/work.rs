@@ -1,7 +1,7 @@
 //! What is measured or counted in a row.
 
 use crate::guests::Guest;
-use host_tests::interface::{ExportAnswer, ScanAnswer, TokenAnswer};
+use host_tests::interface::{ExportAnswer, ListAnswer, ScanAnswer, TokenAnswer};
 use std::fmt::Debug;
 
 pub trait Answer: PartialEq + Debug {
@@ -24,7 +24,7 @@ macro_rules! coded {
     };
 }
 
-coded!(TokenAnswer, ScanAnswer, ExportAnswer);
+coded!(TokenAnswer, ScanAnswer, ExportAnswer, ListAnswer);
 
 /// Several calls in a row: the last one's code.
 impl<A: Answer, const N: usize> Answer for [A; N] {

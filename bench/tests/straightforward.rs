@@ -37,6 +37,6 @@ fn slices_of_every_length_about_a_bound() {
 }
 
 #[test]
-fn lists_of_every_length_filled_and_exported() {
+fn lists_of_every_length_filled_exported_and_restored() {
     same(&mut Straightforward, 0, lists_of_every_length);
 }

@@ -55,6 +55,35 @@ static void export_all(struct bench *bench)
     bench->resume = 0;
 }
 
+static void send_list(struct bench *bench)
+{
+    expect_code(START, bench, CHIRP_DONE);
+    scan_all(bench);
+    expect_code(TRACK, bench, CHIRP_DONE);
+    export_all(bench);
+}
+
+/* Abort, and a restore of the list as the export returned it, its first entry in a call of its own: until it is done there is no start. */
+static void abort_and_restore(struct bench *bench)
+{
+    uint64_t last = entries_of(bench) - 1;
+    expect_code(ABORT, bench, CHIRP_DONE);
+    bench->info = info_for(0, last);
+    if (last > 0) {
+        bench->budget = 1;
+        expect_answer(RESTORE, bench, (struct answer){CHIRP_INTERRUPTED, {info_for(1, last), 0, 0}});
+        bench->info = info_for(1, last);
+        bench->budget = UINT64_MAX;
+    }
+    expect_code(START, bench, CHIRP_EPT_ENTRY_STATE_INCORRECT);
+    expect_answer(RESTORE, bench, (struct answer){CHIRP_DONE, {info_for((last + 1) % 512, last), 0, 0}});
+    for (uint64_t i = 0; i <= last; i++) {
+        EQUAL(word_at(bench->list.bytes, i), entry_for(i));
+        EQUAL(record_at(bench->table.bytes, i), CHIRP_STATE_MAPPED);
+        EQUAL(mark_at(bench->table.bytes, i), 1000 + i);
+    }
+}
+
 /* Pause, check, token: granted if all pages fitted in one list. */
 static void finish(struct bench *bench)
 {
@@ -76,12 +105,9 @@ static void every_call(struct bench bench)
 {
     fill(&bench);
     block_and_back(&bench);
-    expect_code(START, &bench, CHIRP_DONE);
-    expect_code(ABORT, &bench, CHIRP_DONE);
-    expect_code(START, &bench, CHIRP_DONE);
-    scan_all(&bench);
-    expect_code(TRACK, &bench, CHIRP_DONE);
-    export_all(&bench);
+    send_list(&bench);
+    abort_and_restore(&bench);
+    send_list(&bench);
     finish(&bench);
     CHECK(unwritten_around(&bench.session));
     CHECK(unwritten_around(&bench.table));

@@ -9,7 +9,7 @@
 
 const char *const call_names[CALLS] = {
     "new", "write", "add", "accept", "block", "unblock", "remove", "track", "start", "pause", "abort", "new epoch", "reset", "start token", "dscan",
-    "dcheck", "export"};
+    "dcheck", "export", "restore"};
 
 /* Memory that is there, or the end: without it no test would say anything. */
 static void *or_end(void *memory)
@@ -123,6 +123,10 @@ static struct answer list_answer(enum call call, const struct bench *bench)
         return scan_answer(chirp_dscan(BOTH, bench->first, bench->count, SLICE(bench->list), bench->budget));
     if (call == DCHECK)
         return scan_answer(chirp_dcheck(BOTH, SLICE(bench->list), bench->budget));
+    if (call == RESTORE) {
+        chirp_list_answer answer = chirp_restore(BOTH, SLICE(bench->list), bench->info, bench->budget);
+        return (struct answer){answer.code, {answer.info, 0, 0}};
+    }
     chirp_export_answer answer =
         chirp_export(BOTH, SLICE(bench->list), SLICE(bench->buffer), bench->stream, bench->resume, bench->info, bench->budget);
     return (struct answer){answer.code, {answer.info, answer.errors, answer.buffers}};

@@ -39,7 +39,7 @@ void protect_pages(const struct slice *slice, size_t first, size_t count, int pr
 void free_slice(struct slice *slice);
 
 enum call {
-    NEW, WRITE, ADD, ACCEPT, BLOCK, UNBLOCK, REMOVE, TRACK, START, PAUSE, ABORT, NEW_EPOCH, RESET, START_TOKEN, DSCAN, DCHECK, EXPORT, CALLS
+    NEW, WRITE, ADD, ACCEPT, BLOCK, UNBLOCK, REMOVE, TRACK, START, PAUSE, ABORT, NEW_EPOCH, RESET, START_TOKEN, DSCAN, DCHECK, EXPORT, RESTORE, CALLS
 };
 
 extern const char *const call_names[CALLS];

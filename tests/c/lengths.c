@@ -24,11 +24,17 @@ static void expect_refusal(enum call call, const struct bench *bench, uint64_t c
     }
 }
 
-static struct bench live_bench(void)
+static struct bench idle_bench(void)
 {
     struct bench bench = heap_bench(PAGES, 0, 0);
     fill(&bench);
     bench.page = 0;
+    return bench;
+}
+
+static struct bench live_bench(void)
+{
+    struct bench bench = idle_bench();
     expect_code(START, &bench, CHIRP_DONE);
     return bench;
 }
@@ -57,6 +63,8 @@ void null_pointers_with_length_0(void)
     expect_refusal(EXPORT, &bench, CHIRP_OPERAND_INVALID);
     expect_code(PAUSE, &bench, CHIRP_DONE);
     expect_answer(DCHECK, &bench, (struct answer){CHIRP_LIST_FULL, {0, 511, 0}});
+    expect_code(ABORT, &bench, CHIRP_DONE);
+    expect_refusal(RESTORE, &bench, CHIRP_OPERAND_INVALID);
     free_bench(&bench);
 }
 
@@ -142,6 +150,22 @@ static void expect_dirty(struct bench *bench, uint64_t words)
     }
 }
 
+/* A restore of pages that are exported, all but the last: that one has nothing to restore. */
+static void expect_restored(struct bench *bench, uint64_t words)
+{
+    for (uint64_t i = 0; i < words; i++) {
+        put_word(bench->list.bytes, i, entry_for(i));
+        set_record(bench, i, i + 1 < words ? CHIRP_STATE_EXPORTED : CHIRP_STATE_MAPPED);
+    }
+    bench->info = info_for(0, words - 1);
+    expect_answer(RESTORE, bench, (struct answer){CHIRP_DONE, {info_for(words % 512, words - 1), 0, 0}});
+    for (uint64_t i = 0; i < words; i++) {
+        uint64_t status = i + 1 < words ? CHIRP_STATUS_SUCCESS : CHIRP_STATUS_SEPT_ENTRY_STATE_INCORRECT;
+        EQUAL(entry_status(word_at(bench->list.bytes, i)), status);
+        EQUAL(record_at(bench->table.bytes, i), CHIRP_STATE_MAPPED);
+    }
+}
+
 static const uint64_t list_words[] = {0, 1, 255, 256, 257, 511, 512};
 enum { LISTS = sizeof list_words / sizeof *list_words };
 
@@ -151,10 +175,10 @@ static void expect_unwritten_around(const struct bench *bench)
     CHECK(unwritten_around(&bench->buffer));
 }
 
-/* Exports, checks and scans with lists and buffers of all these lengths. */
+/* Exports, checks, restores and scans with lists and buffers of all these lengths. */
 static void lists_in(struct memory memory)
 {
-    struct bench live = live_bench(), paused = blackout_bench();
+    struct bench idle = idle_bench(), live = live_bench(), paused = blackout_bench();
     for (unsigned i = 0; i < LISTS; i++) {
         uint64_t words = list_words[i], bytes = words * CHIRP_WORD_BYTES;
         lend(&live, bytes, bytes, memory);
@@ -165,6 +189,12 @@ static void lists_in(struct memory memory)
         expect_code(RESET, &paused, CHIRP_DONE);
         expect_filled(DCHECK, &paused, words, 0);
         expect_unwritten_around(&paused);
+        lend(&idle, bytes, 0, memory);
+        if (words > 0)
+            expect_restored(&idle, words);
+        else
+            expect_refusal(RESTORE, &idle, CHIRP_OPERAND_INVALID);
+        expect_unwritten_around(&idle);
     }
     for (unsigned i = 0; i < LISTS; i++) {
         lend(&live, list_words[i] * CHIRP_WORD_BYTES, 0, memory);
@@ -173,6 +203,7 @@ static void lists_in(struct memory memory)
         expect_filled(DSCAN, &live, list_words[i], live.first);
         expect_unwritten_around(&live);
     }
+    free_bench(&idle);
     free_bench(&live);
     free_bench(&paused);
 }
@@ -190,29 +221,41 @@ void lists_beside_a_guard_page(void)
             lists_in((struct memory){true, {distance, from_start}});
 }
 
-/* All three calls that take a list refuse one of this many bytes. */
-static void expect_refused_list(struct bench *live, struct bench *paused, size_t bytes, size_t offset)
+/* A bench in each phase in which some call takes a list. */
+struct phases {
+    struct bench idle, live, paused;
+};
+
+static void lend_bytes(struct bench *bench, size_t bytes, size_t offset)
 {
-    lend(live, bytes, bytes, on_the_heap(offset));
-    lend(paused, bytes, bytes, on_the_heap(offset));
-    live->info = info_for(0, 0);
-    paused->info = live->info;
-    expect_refusal(DSCAN, live, CHIRP_OPERAND_INVALID);
-    expect_refusal(EXPORT, live, CHIRP_OPERAND_INVALID);
-    expect_refusal(DCHECK, paused, CHIRP_OPERAND_INVALID);
-    expect_refusal(EXPORT, paused, CHIRP_OPERAND_INVALID);
+    lend(bench, bytes, bytes, on_the_heap(offset));
+    bench->info = info_for(0, 0);
+}
+
+/* All four calls that take a list refuse one of this many bytes. */
+static void expect_refused_list(struct phases *in, size_t bytes, size_t offset)
+{
+    lend_bytes(&in->idle, bytes, offset);
+    lend_bytes(&in->live, bytes, offset);
+    lend_bytes(&in->paused, bytes, offset);
+    expect_refusal(RESTORE, &in->idle, CHIRP_OPERAND_INVALID);
+    expect_refusal(DSCAN, &in->live, CHIRP_OPERAND_INVALID);
+    expect_refusal(EXPORT, &in->live, CHIRP_OPERAND_INVALID);
+    expect_refusal(DCHECK, &in->paused, CHIRP_OPERAND_INVALID);
+    expect_refusal(EXPORT, &in->paused, CHIRP_OPERAND_INVALID);
 }
 
 void ragged_lists(void)
 {
     static const size_t whole[] = {0, 8, 4088, 4096};
-    struct bench live = live_bench(), paused = blackout_bench();
+    struct phases in = {idle_bench(), live_bench(), blackout_bench()};
     for (unsigned i = 0; i < sizeof whole / sizeof *whole; i++)
         for (size_t more = 1; more < CHIRP_WORD_BYTES; more++)
-            expect_refused_list(&live, &paused, whole[i] + more, more % 2);
-    expect_refused_list(&live, &paused, (CHIRP_MAX_ENTRIES + 1) * CHIRP_WORD_BYTES, 0);
-    free_bench(&live);
-    free_bench(&paused);
+            expect_refused_list(&in, whole[i] + more, more % 2);
+    expect_refused_list(&in, (CHIRP_MAX_ENTRIES + 1) * CHIRP_WORD_BYTES, 0);
+    free_bench(&in.idle);
+    free_bench(&in.live);
+    free_bench(&in.paused);
 }
 
 void buffers_of_another_length(void)

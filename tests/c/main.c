@@ -49,9 +49,11 @@ int main(void)
         TEST(other_refused_calls_look_at_no_page_without_need),
         TEST(one_page_calls_touch_their_page_alone),
         TEST(a_page_beyond_the_table_touches_nothing),
-        TEST(session_calls_change_no_byte_of_the_table),
+        TEST(session_calls_touch_no_byte_of_the_table),
+        TEST(the_token_changes_no_byte_of_the_table),
         TEST(scans_touch_the_pages_that_they_visit),
         TEST(exports_touch_the_pages_that_their_entries_name),
+        TEST(restores_touch_the_pages_that_their_entries_name),
     };
     return run_tests(tests, sizeof tests / sizeof *tests);
 }

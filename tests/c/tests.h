@@ -31,9 +31,11 @@ void refused_calls_on_read_only_memory(void);
 void other_refused_calls_look_at_no_page_without_need(void);
 void one_page_calls_touch_their_page_alone(void);
 void a_page_beyond_the_table_touches_nothing(void);
-void session_calls_change_no_byte_of_the_table(void);
+void session_calls_touch_no_byte_of_the_table(void);
+void the_token_changes_no_byte_of_the_table(void);
 
 void scans_touch_the_pages_that_they_visit(void);
 void exports_touch_the_pages_that_their_entries_name(void);
+void restores_touch_the_pages_that_their_entries_name(void);
 
 #endif

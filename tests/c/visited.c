@@ -1,4 +1,7 @@
-/* Scans touch the pages that they visit, and exports those that their entries name; a page that is not listed or not exported is only read. */
+/*
+ * Scans touch the pages that they visit, exports and restores those that their entries name; a page that is not listed, not exported or not restored
+ * is only read.
+ */
 #define _GNU_SOURCE
 #include "tests.h"
 
@@ -12,7 +15,7 @@ struct reach {
 
 static uint64_t first_page(size_t os_page) { return os_page * PAGES_IN_OS_PAGE; }
 
-/* A table of 4,096 pages, all with one record but those that may only be read; TLB epoch 3, migration epoch 2. */
+/* A table of 4,096 pages, all with one record but those that may only be read; TLB epoch 3, migration epoch 2, or 0 in Idle. */
 static struct bench bench_in(uint64_t phase, uint64_t room, uint64_t record, struct reach reach, uint64_t record_read)
 {
     struct bench bench = mapped_bench(CHIRP_MAX_PAGES, room, (struct place){0});
@@ -20,7 +23,7 @@ static struct bench bench_in(uint64_t phase, uint64_t room, uint64_t record, str
     expect_code(NEW, &bench, CHIRP_DONE);
     set_session(&bench, CHIRP_SESSION_PHASE, phase);
     set_session(&bench, CHIRP_SESSION_TLB_EPOCH, 3);
-    set_session(&bench, CHIRP_SESSION_MIGRATION_EPOCH, 2);
+    set_session(&bench, CHIRP_SESSION_MIGRATION_EPOCH, phase == CHIRP_PHASE_IDLE ? 0 : 2);
     for (uint64_t page = 0; page < CHIRP_MAX_PAGES; page++) {
         set_record(&bench, page, page >= from && page < to ? record_read : record);
         put_word(bench.table.bytes, 2 * page + 1, 1000 + page);
@@ -52,7 +55,7 @@ static void expect_within(struct reach reach, enum call call, struct bench bench
     protect(&bench.table, PROT_NONE);
     protect_pages(&bench.table, reach.first, reach.written, PROT_READ | PROT_WRITE);
     protect_pages(&bench.table, reach.first + reach.written, reach.read, PROT_READ);
-    if (call == DSCAN)
+    if (call == DSCAN || call == RESTORE)
         protect(&bench.session, PROT_READ);
     expect_answer(call, &bench, wanted);
     protect(&bench.table, PROT_READ);
@@ -120,14 +123,18 @@ void scans_touch_the_pages_that_they_visit(void)
 
 /* ---- Exports ---- */
 
-/* A list of so many entries for the pages of two operating system's pages in turn. */
-static struct bench export_bench(uint64_t entries, struct reach reach, size_t even, size_t odd)
+/* Gives the bench a list of so many entries for the pages of two operating system's pages in turn. */
+static struct bench asking(struct bench bench, uint64_t entries, size_t even, size_t odd)
 {
-    struct bench bench = bench_in(CHIRP_PHASE_LIVE, entries, MAPPED, reach, DIRTY | MAPPED);
     for (uint64_t i = 0; i < entries; i++)
         put_word(bench.list.bytes, i, entry_for(first_page(i % 2 == 0 ? even : odd) + i % PAGES_IN_OS_PAGE));
     bench.info = info_for(0, entries - 1);
     return bench;
+}
+
+static struct bench export_bench(uint64_t entries, struct reach reach, size_t even, size_t odd)
+{
+    return asking(bench_in(CHIRP_PHASE_LIVE, entries, MAPPED, reach, DIRTY | MAPPED), entries, even, odd);
 }
 
 /* Every page of one of the operating system's pages is exported. */
@@ -159,4 +166,51 @@ void exports_touch_the_pages_that_their_entries_name(void)
     expect_within(one, EXPORT, bench, (struct answer){CHIRP_DONE, {info_for(1, 0), 0, 2 + 1}});
     bench = export_bench(2, one, 5, CHIRP_MAX_PAGES / PAGES_IN_OS_PAGE);
     expect_within(one, EXPORT, bench, (struct answer){CHIRP_DONE, {info_for(2, 1), 1, 2 + 1}});
+}
+
+/* ---- Restores ---- */
+
+/* Every page waits for a restore, but those that may only be read: these have nothing to restore. No restore touches a buffer. */
+static struct bench restore_bench(uint64_t entries, struct reach reach, size_t even, size_t odd)
+{
+    struct bench bench = asking(bench_in(CHIRP_PHASE_IDLE, entries, CLEAN, reach, MAPPED), entries, even, odd);
+    protect(&bench.buffer, PROT_READ);
+    return bench;
+}
+
+static struct answer restored(uint64_t code, uint64_t first, uint64_t last) { return (struct answer){code, {info_for(first, last), 0, 0}}; }
+
+void restores_touch_the_pages_that_their_entries_name(void)
+{
+    for (size_t os_page = 0; os_page < 16; os_page += 5) {
+        struct reach reach = {os_page, 1, 0};
+        expect_within(reach, RESTORE, restore_bench(256, reach, os_page, os_page), restored(CHIRP_DONE, 256, 255));
+    }
+
+    /* Pages with nothing to restore, among others and alone. */
+    struct reach two = {5, 1, 1};
+    expect_within(two, RESTORE, restore_bench(256, two, 5, 6), restored(CHIRP_DONE, 256, 255));
+    struct reach read = {6, 0, 1};
+    expect_within(read, RESTORE, restore_bench(256, read, 6, 6), restored(CHIRP_DONE, 256, 255));
+
+    /* Entries that are not taken: the budget is spent, LAST is before them, FIRST behind them. Then a page beyond the table. */
+    struct reach one = {5, 1, 0};
+    struct bench bench = restore_bench(2, one, 5, 9);
+    bench.budget = 1;
+    expect_within(one, RESTORE, bench, restored(CHIRP_INTERRUPTED, 1, 1));
+    bench = restore_bench(2, one, 5, 9);
+    bench.info = info_for(0, 0);
+    expect_within(one, RESTORE, bench, restored(CHIRP_DONE, 1, 0));
+    bench = restore_bench(2, one, 9, 5);
+    bench.info = info_for(1, 1);
+    expect_within(one, RESTORE, bench, restored(CHIRP_DONE, 2, 1));
+    bench = restore_bench(2, one, 5, CHIRP_MAX_PAGES / PAGES_IN_OS_PAGE);
+    expect_within(one, RESTORE, bench, restored(CHIRP_DONE, 2, 1));
+
+    /* With budget 0 no page is touched, and no word of the list is written. */
+    struct reach none = {0};
+    bench = restore_bench(2, none, 5, 9);
+    bench.budget = 0;
+    protect(&bench.list, PROT_READ);
+    expect_within(none, RESTORE, bench, restored(CHIRP_INTERRUPTED, 0, 1));
 }

@@ -130,8 +130,12 @@ TEST(B19_lists_in_whole_words, "List or buffer bytes not in whole words are 42, 
                 set(g, TLB, 0);
                 REFUSED(g, 40, EXPORT, .budget = ALL);
             }
+        guest *idle = guest_in(IDLE, 1);
+        resize(idle, LIST, bytes);
+        REFUSED(idle, 42, RESTORE, .budget = ALL);
         guest *g = guest_in(LIVE, 1);
         resize(g, LIST, bytes);
+        REFUSED(g, 41, RESTORE, .budget = ALL);
         REFUSED(g, 42, DSCAN, .count = 1, .budget = ALL);
         REFUSED(g, 41, DCHECK, .budget = ALL);
         set(g, PHASE, BLACKOUT);

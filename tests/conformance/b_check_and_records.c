@@ -56,7 +56,6 @@ TEST(B15_no_word_of_a_table_is_malformed, "No word of a table makes a call 40; o
     guest *g = guest_in(LIVE, 4);
     for (size_t i = 0; i < 8; i++)
         set_word(g, TABLE, i, UINT64_MAX);
-    expect(g, PHASE, IDLE);
-    expect(g, MIG, 0);
-    PASSES(g, ABORT);
+    expect(g, TLB, 3);
+    PASSES(g, TRACK);
 }

@@ -20,6 +20,9 @@ TEST(C1_codes_of_calls_that_ran,
     RUNS(g, 0, RESET);
     PAGE(g, 0, .state = 1);
     RUNS(g, 51, DCHECK, .budget = 1);
+    RUNS(g, 0, ABORT);
+    RUNS(g, 1, RESTORE, .budget = 0);
+    RUNS(g, 0, RESTORE, .budget = 1);
 }
 
 TEST(C1_codes_of_refusals,
@@ -104,6 +107,12 @@ TEST(C4_41_comes_before_42, "41 comes before 42.")
             REFUSED(g, 41, c, .page = 3);
         REFUSED(g, 41, DSCAN, .first = 3, .count = 0);
     }
+    EACH(phase, LIVE, BLACKOUT, DONE)
+        EACH(words, 0, 513) {
+            guest *g = guest_in(phase, 3);
+            lists_of(g, words);
+            REFUSED(g, 41, RESTORE, .info = 7, .budget = ALL);
+        }
     EACH(phase, IDLE, DONE) {
         guest *g = guest_in(phase, 3);
         EACH(words, 0, 513) {
@@ -165,7 +174,10 @@ TEST(C7_a_refusal_leaves_everything, "40 to 50 and 52 to 56 leave everything unt
     REFUSED(live, 45, WRITE, .page = 2);
     REFUSED(live, 46, UNBLOCK, .page = 4);
     REFUSED(live, 48, PAUSE);
-    REFUSED(crowd_in(IDLE), 45, START);
+    guest *idle = crowd_in(IDLE);
+    REFUSED(idle, 45, START);
+    REFUSED(idle, 45, REMOVE, .page = 26);
+    REFUSED(idle, 42, RESTORE, .info = info(1, 0), .budget = ALL);
     INTERRUPT(live, 2, .next = 3, .last = 5, .errors = 1, .data = 2);
     REFUSED(live, 43, NEW_EPOCH);
     REFUSED(live, 44, EXPORT, .stream = 2, .resume = 1, .info = info(3, 3), .budget = ALL);

@@ -25,6 +25,7 @@ static const arrangement arrangements[] = {
     {DSCAN, TAKES_PAGE | TAKES_LIST, IN(LIVE)},
     {DCHECK, TAKES_LIST, IN(BLACKOUT)},
     {EXPORT, TAKES_LIST, IN(LIVE) | IN(BLACKOUT)},
+    {RESTORE, TAKES_LIST, IN(IDLE)},
 };
 
 #define FAULTY .page = ALL, .first = ALL, .stream = ALL

@@ -213,6 +213,8 @@ static answer of_export(chirp_export_answer a)
     return (answer){.code = a.code, .info = a.info, .errors = a.errors, .buffers = a.buffers};
 }
 
+static answer of_list(chirp_list_answer a) { return (answer){.code = a.code, .info = a.info}; }
+
 static answer perform(guest *g, call c, operands o)
 {
     switch (c) {
@@ -233,6 +235,7 @@ static answer perform(guest *g, call c, operands o)
     case DSCAN: return of_scan(chirp_dscan(GUEST, o.first, o.count, LENT(LIST), o.budget));
     case DCHECK: return of_scan(chirp_dcheck(GUEST, LENT(LIST), o.budget));
     case EXPORT: return of_export(chirp_export(GUEST, LENT(LIST), LENT(BUFFER), o.stream, o.resume, o.info, o.budget));
+    case RESTORE: return of_list(chirp_restore(GUEST, LENT(LIST), o.info, o.budget));
     default: abort();
     }
 }

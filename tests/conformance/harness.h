@@ -117,7 +117,7 @@ uint64_t info(uint64_t first, uint64_t last);
 /* ---- calls ---- */
 
 typedef enum {
-    NEW, WRITE, ADD, ACCEPT, BLOCK, UNBLOCK, REMOVE, TRACK, START, PAUSE, ABORT, NEW_EPOCH, RESET, TOKEN, DSCAN, DCHECK, EXPORT, CALLS
+    NEW, WRITE, ADD, ACCEPT, BLOCK, UNBLOCK, REMOVE, TRACK, START, PAUSE, ABORT, NEW_EPOCH, RESET, TOKEN, DSCAN, DCHECK, EXPORT, RESTORE, CALLS
 } call;
 
 #define ALL UINT64_MAX /* a budget that lasts */

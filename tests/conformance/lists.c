@@ -93,3 +93,29 @@ void expect_skipped(guest *g, size_t from, size_t to)
         expect_word(g, BUFFER, i, 0);
     }
 }
+
+guest *aborted_with(size_t pages)
+{
+    guest *g = guest_in(IDLE, pages);
+    lists_of(g, pages);
+    for (size_t i = 0; i < pages; i++) {
+        PAGE(g, i, .state = 24, .cached = 1, .stamp = 1, .epoch = 3, .mark = i);
+        set_word(g, LIST, i, ENTRY(.page = i, .operation = 1, .status = 31));
+    }
+    return g;
+}
+
+void expect_restored(guest *g, size_t from, size_t to)
+{
+    for (size_t i = from; i < to; i++) {
+        EXPECT_PAGE(g, i, .state = 4, .cached = 1, .mark = i);
+        expect_word(g, LIST, i, ENTRY(.page = i, .operation = 1));
+    }
+}
+
+void returns(place at, guest *g, uint64_t out)
+{
+    expect_word(g, LIST, 0, out);
+    answer a = answers(at, g, 0, RESTORE, (operands){.info = info(0, 0), .budget = 1});
+    check_equal(at, "info word", a.info, info(1, 0));
+}

@@ -1,4 +1,7 @@
-/* What tests of scans and exports are written with beside harness.h: list words by their fields, and scans and entries with what should come of them. */
+/*
+ * What tests of scans, exports and restores are written with beside harness.h: list words by their fields, and scans and entries with what should
+ * come of them.
+ */
 #ifndef LISTS_H
 #define LISTS_H
 
@@ -63,5 +66,19 @@ void moves(place at, guest *g, uint64_t to, entry_fields out);
 void list_of_skips(guest *g, size_t words);
 /* Expects that the entries from..to-1, with OPERATION 0, are taken: status 1, buffer word 0. */
 void expect_skipped(guest *g, size_t from, size_t to);
+
+/* ---- restores ---- */
+
+/*
+ * A guest in Idle as an abort may leave it: so many pages in 24, Cached, stamp 1, epoch 3, each with its number as mark. The list asks for each page
+ * in turn, and the STATUS of its entries is full of bits.
+ */
+guest *aborted_with(size_t pages);
+/* Expects that the entries from..to-1 of that list are taken: status 0, and their pages are back in 4. */
+void expect_restored(guest *g, size_t from, size_t to);
+
+/* Restores the list's first entry alone. It comes back as this word, and all other bytes are as expected. */
+#define RETURNS(g, out) returns(HERE, (g), (out))
+void returns(place at, guest *g, uint64_t out);
 
 #endif

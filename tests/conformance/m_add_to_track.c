@@ -17,7 +17,7 @@ static page unstamped(page p)
 
 TEST(M14_add, "Add: 0 becomes 2, everything else and strange is 45.") { ONLY_MOVES(ADD, 45, cleared, {0, 2}); }
 
-TEST(M15_accept, "Accept: 2 becomes 4; 29 and 30 become 25; everything else and strange is 45.")
+TEST(M15_accept, "Accept: 2 becomes 4; in Live 29 and 30 become 25; everything else and strange is 45.")
 {
     ONLY_MOVES(ACCEPT, 45, cleared, {2, 4}, {29, 25}, {30, 25});
 }
@@ -42,7 +42,7 @@ TEST(M16_an_accepted_page_is_to_be_scanned_again, "A page in 30 with a tracked s
     EQUAL(word(g, LIST, 0), 0x0500000000000000);
 }
 
-TEST(M17_block, "Block: 4 becomes 1, 2 becomes 3, 24 and 25 become 26, 29 and 30 become 31, Dirty or not; else and strange 45.")
+TEST(M17_block, "Block: 4 becomes 1, 2 becomes 3; in Live 24 and 25 become 26, 29 and 30 become 31; Dirty or not; else and strange 45.")
 {
     ONLY_MOVES(BLOCK, 45, stamped_2, {4, 1}, {2, 3}, {24, 26}, {25, 26}, {29, 31}, {30, 31});
     EACH(state, 2, 4, 24, 25, 29, 30)
@@ -76,7 +76,7 @@ TEST(M19_block_is_disallowed_in_blackout, "Block in Blackout is 49, in 41's plac
     }
 }
 
-TEST(M20_unblock, "Unblock: 1 becomes 4, 3 becomes 2, 26 becomes 25, 31 becomes 30, stamp 0; mark, Dirty, Cached and epoch stay.")
+TEST(M20_unblock, "Unblock: 1 becomes 4, 3 becomes 2; in Live 26 becomes 25, 31 becomes 30; stamp 0; mark, Dirty, Cached and epoch stay.")
 {
     ONLY_MOVES(UNBLOCK, 46, unstamped, {1, 4}, {3, 2}, {26, 25}, {31, 30});
 }
@@ -93,19 +93,21 @@ TEST(M20_an_unblocked_page_is_to_be_scanned_again,
     EQUAL(word(g, LIST, 0), 0x0500000000000000);
 }
 
-TEST(M21_remove, "Remove: 1 and 3 become 0, 26 and 31 become 27; mark, Dirty, Cached, stamp 0; the epoch stays.")
+TEST(M21_remove, "Remove: 1 and 3 become 0; in Live 26 and 31 become 27; mark, Dirty, Cached, stamp 0; the epoch stays.")
 {
     ONLY_MOVES(REMOVE, 46, cleared, {1, 0}, {3, 0}, {26, 27}, {31, 27});
 }
 
 TEST(M22_not_blocked_comes_before_not_tracked,
-     "Unblock and remove in any other state than 1, 3, 26, 31, or strange, are 46, and 46 comes before 47.")
+     "Unblock and remove in any other state than 1, 3, 26, 31, or strange, are 46, and 46 comes before 47; in Idle 24 to 27 and 29 to 31 are 45.")
 {
     EACH(phase, IDLE, LIVE)
         EACH(c, UNBLOCK, REMOVE)
             EACH(stamp, 0, 1, 2, 3) {
-                EACH(state, 0, 2, 4, 24, 25, 27, 29, 30, 5, 28, 255)
+                EACH(state, 0, 2, 4, 5, 28, 255)
                     REFUSED(ONE(phase, .state = state, .stamp = stamp), 46, c);
+                EACH(state, 24, 25, 27, 29, 30)
+                    REFUSED(ONE(phase, .state = state, .stamp = stamp), phase == IDLE ? 45 : 46, c);
                 EACH(spare, 1ULL << 10, 1ULL << 63)
                     REFUSED(ONE(phase, .state = 1, .stamp = stamp, .spare = spare), 46, c);
             }
@@ -121,12 +123,13 @@ TEST(M23_blocked_but_not_tracked, "Stamp 0, or stamp at or above the TLB epoch, 
                     set(g, TLB, tlb);
                     REFUSED(g, 47, c);
                 }
-                EACH(stamp, 1, tlb - 1) {
-                    guest *g = ONE(IDLE, .state = state, .stamp = stamp);
-                    set(g, TLB, tlb);
-                    if (tlb > 1)
-                        RUNS(g, 0, c);
-                }
+                EACH(phase, IDLE, LIVE)
+                    EACH(stamp, 1, tlb - 1) {
+                        guest *g = ONE(phase, .state = state, .stamp = stamp);
+                        set(g, TLB, tlb);
+                        if (tlb > 1)
+                            RUNS(g, phase == IDLE && is_to_restore(state) ? 45 : 0, c);
+                    }
             }
 }
 

@@ -109,14 +109,20 @@ TEST(M6_guest_calls_come_in_idle_and_live, "Write, add, accept, unblock, remove 
     }
 }
 
-TEST(M7_idle_is_like_live, "These and block do in Idle what they do in Live, for exported states of a handed table too.")
+TEST(M7_idle_is_like_live_but_for_exported_pages,
+     "These and block do in Idle what they do in Live; on a page in 24 to 27 or 29 to 31 only write does, and the other five are 45 in Idle.")
 {
     const struct { call c; page before, after; } rows[] = {
+        {ADD, {.state = 0}, {.state = 2}},
+        {ACCEPT, {.state = 2}, {.state = 4}},
         {ACCEPT, {.state = 29}, {.state = 25}},
         {ACCEPT, {.state = 30}, {.state = 25}},
+        {BLOCK, {.state = 2}, {.state = 3, .stamp = 2}},
         {BLOCK, {.state = 24}, {.state = 26, .stamp = 2}},
         {BLOCK, {.state = 30}, {.state = 31, .stamp = 2}},
+        {UNBLOCK, {.state = 3, .stamp = 1}, {.state = 2}},
         {UNBLOCK, {.state = 26, .stamp = 1}, {.state = 25}},
+        {REMOVE, {.state = 1, .stamp = 1}, {.state = 0}},
         {REMOVE, {.state = 31, .stamp = 1}, {.state = 27}},
         {WRITE, {.state = 24}, {.state = 24, .dirty = 1, .cached = 1}},
         {WRITE, {.state = 26, .cached = 1}, {.state = 26, .cached = 1}},
@@ -124,6 +130,10 @@ TEST(M7_idle_is_like_live, "These and block do in Idle what they do in Live, for
     for (size_t i = 0; i < sizeof rows / sizeof *rows; i++)
         EACH(phase, IDLE, LIVE) {
             guest *g = one_page(phase, rows[i].before);
+            if (phase == IDLE && rows[i].c != WRITE && is_to_restore(rows[i].before.state)) {
+                REFUSED(g, 45, rows[i].c);
+                continue;
+            }
             expect_page(g, 0, rows[i].after);
             PASSES(g, rows[i].c);
         }

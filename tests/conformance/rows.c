@@ -9,6 +9,7 @@ const chapter chapters[] = {
     {'N', 28}, /* scans */
     {'L', 5},  /* list words */
     {'E', 49}, /* export of a list */
+    {'R', 42}, /* restore of a list, and what Idle has to wait for until then */
     {'T', 13}, /* the marked table: ten entries and what comes back */
     {'P', 4},  /* slips that a class makes */
     {'F', 11}, /* the form of the code */

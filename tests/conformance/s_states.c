@@ -22,8 +22,12 @@ TEST(S5_twelve_states_and_no_other, "The base uses twelve states: 0 to 4, 24 to 
     expect(g, TLB, 3);
     PASSES(g, TRACK);
     RUNS(g, 0, ABORT);
+    lists_of(g, 256);
     for (size_t state = 0; state < 256; state++)
-        EQUAL(word(g, TABLE, 2 * state) >> 32, !is_of_the_base(state));
+        set_word(g, LIST, state, entry(state));
+    RUNS(g, 0, RESTORE, .info = info(0, 255), .budget = ALL);
+    for (size_t state = 0; state < 256; state++)
+        EQUAL(word(g, TABLE, 2 * state) >> 32, !is_to_restore(state));
 }
 
 TEST(S5_a_listed_number_is_strange_like_any_other, "A record in 5, 6, 28 or 64 is not free, and one in 8 or 32 not mapped.")
@@ -121,7 +125,8 @@ TEST(S10_no_call_but_new_changes_a_strange_record, "No call but New changes a st
         }
         REFUSED(guest_with(IDLE, busy), 45, START);
         guest *g = guest_with(LIVE, busy);
-        EACH(c, TRACK, NEW_EPOCH, RESET, DSCAN, EXPORT, PAUSE, NEW_EPOCH, EXPORT, ABORT) {
+        EACH(c, TRACK, NEW_EPOCH, RESET, DSCAN, EXPORT, PAUSE, NEW_EPOCH, EXPORT, ABORT, RESTORE) {
+            set_word(g, LIST, 0, entry(0));
             RUNS(g, 0, c, ORDINARY);
             EQUAL(word(g, TABLE, 0), busy);
             EQUAL(word(g, TABLE, 1), 5);
@@ -133,17 +138,22 @@ TEST(S10_no_call_but_new_changes_a_strange_record, "No call but New changes a st
     }
 }
 
-TEST(S10_abort_goes_on_past_a_strange_record, "Abort leaves a strange record and goes on with the pages behind it.")
+TEST(S10_restore_goes_on_past_a_strange_record,
+     "Abort leaves a strange record like any other; RESTORE leaves it and goes on with the entries behind it.")
 {
     guest *g = guest_in(LIVE, 3);
-    PAGE(g, 0, .state = 24, .epoch = 1);
-    PAGE(g, 1, .state = 24, .stamp = 1, .epoch = 1, .spare = 0x400);
-    PAGE(g, 2, .state = 24, .epoch = 1);
-    EXPECT_PAGE(g, 0, .state = 4);
-    EXPECT_PAGE(g, 2, .state = 4);
+    lists_of(g, 3);
+    for (size_t i = 0; i < 3; i++) {
+        PAGE(g, i, .state = 24, .stamp = 1, .epoch = 1, .spare = i == 1 ? 0x400 : 0);
+        set_word(g, LIST, i, entry(i));
+    }
     expect(g, PHASE, IDLE);
     expect(g, MIG, 0);
     PASSES(g, ABORT);
+    EXPECT_PAGE(g, 0, .state = 4);
+    EXPECT_PAGE(g, 2, .state = 4);
+    expect_word(g, LIST, 1, 0x0400000000001000);
+    PASSES(g, RESTORE, .info = info(0, 2), .budget = ALL);
 }
 
 TEST(S11_track_and_pause_leave_a_strange_cached_bit,

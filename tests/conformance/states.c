@@ -8,6 +8,14 @@ int is_of_the_base(uint64_t state)
     return 0;
 }
 
+int is_to_restore(uint64_t state)
+{
+    EACH(s, TO_RESTORE)
+        if (s == state)
+            return 1;
+    return 0;
+}
+
 guest *one_page(uint64_t phase, page p)
 {
     guest *g = guest_in(phase, 1);
@@ -52,12 +60,14 @@ void check_moves(place at, call c, uint64_t code, change *changed, const move *m
     EACH(phase, IDLE, LIVE) {
         guest *g = crowd_in(phase);
         for (uint64_t state = 0; state < 256; state++) {
-            const move *m = move_from(moves, state);
+            const int waits = phase == IDLE && is_to_restore(state);
+            const move *m = waits ? NULL : move_from(moves, state);
+            const uint64_t otherwise = waits ? 45 : code;
             page strange = crowded(state);
             strange.spare = 0x8000;
             check_move(at, g, c, code, changed, NULL, strange);
-            check_move(at, g, c, code, changed, m, (page){.state = state, .stamp = 1});
-            check_move(at, g, c, code, changed, m, crowded(state));
+            check_move(at, g, c, otherwise, changed, m, (page){.state = state, .stamp = 1});
+            check_move(at, g, c, otherwise, changed, m, crowded(state));
         }
     }
 }

@@ -1,13 +1,6 @@
 /* Session calls: start, pause, abort and new epoch. */
 #include "states.h"
 
-/* Sets every page of the base to what the change makes of it, in what is expected of a crowd. */
-static void expect_crowd(guest *g, change *changed)
-{
-    EACH(state, BASE)
-        expect_page(g, state, changed(crowded(state)));
-}
-
 TEST(X1_start_comes_in_idle, "Start comes in Idle alone.")
 {
     EACH(phase, LIVE, BLACKOUT, DONE)
@@ -148,58 +141,41 @@ TEST(X10_abort_comes_in_live_and_blackout, "Abort comes in Live and Blackout; in
     }
 }
 
-static uint64_t aborted_state(uint64_t state)
+/* Aborts, and checks that of the session phase and migration epoch change and of the table nothing. */
+static void abort_keeps_the_table(place at, guest *g)
 {
-    const struct { uint64_t from, to; } moves[] = {{24, 4}, {25, 4}, {29, 2}, {30, 2}, {26, 1}, {31, 3}, {27, 0}};
-    for (size_t i = 0; i < sizeof moves / sizeof *moves; i++)
-        if (moves[i].from == state)
-            return moves[i].to;
-    return state;
+    expect(g, PHASE, IDLE);
+    expect(g, MIG, 0);
+    answers(at, g, 0, ABORT, (operands){ORDINARY});
 }
 
-static page aborted(page p)
-{
-    p.state = aborted_state(p.state);
-    p.epoch = 0;
-    if (p.state != 1 && p.state != 3)
-        p.stamp = 0;
-    return p;
-}
-
-TEST(X11_abort_undoes_the_export,
-     "Abort: 24 and 25 become 4, 29 and 30 become 2, 26 becomes 1, 31 becomes 3, 27 becomes 0; 0 to 4 keep their state.")
+TEST(X11_abort_keeps_every_state, "Abort changes no record: a page in 24 to 27 or 29 to 31 stays there, and so does any other, strange or not.")
 {
     EACH(phase, LIVE, BLACKOUT) {
-        guest *g = crowd_in(phase);
-        expect_crowd(g, aborted);
-        expect(g, PHASE, IDLE);
-        expect(g, MIG, 0);
-        PASSES(g, ABORT);
+        abort_keeps_the_table(HERE, crowd_in(phase));
+        abort_keeps_the_table(HERE, guest_in(phase, 4096));
+        EACH(state, BASE)
+            abort_keeps_the_table(HERE, ONE(phase, .state = state));
     }
 }
 
-TEST(X12_abort_clears_epochs_and_stamps, "Abort sets the epoch of every plain record to 0, and clears stamps except in what is 1 or 3 afterwards.")
+TEST(X12_abort_keeps_epochs_and_stamps, "Abort keeps the epoch and the stamp of every page, in 0 to 4 too.")
 {
     EACH(phase, LIVE, BLACKOUT)
         EACH(state, BASE)
             EACH(number, 1, 2, 3, 65535) {
-                guest *g = ONE(phase, .state = state, .stamp = number, .epoch = number);
-                const int blocked = state == 1 || state == 3 || state == 26 || state == 31;
-                RUNS(g, 0, ABORT);
-                EQUAL(word(g, TABLE, 0) >> 16, blocked ? number : 0);
+                abort_keeps_the_table(HERE, ONE(phase, .state = state, .stamp = number));
+                abort_keeps_the_table(HERE, ONE(phase, .state = state, .epoch = number));
+                abort_keeps_the_table(HERE, ONE(phase, .state = state, .stamp = number, .epoch = number));
             }
 }
 
 TEST(X13_abort_keeps_the_rest, "Abort keeps mark, Dirty and Cached.")
 {
-    EACH(state, BASE)
-        EACH(bits, 0, 1, 2, 3) {
-            guest *g = ONE(LIVE, .state = state, .dirty = bits & 1, .cached = bits >> 1, .mark = 9);
-            EXPECT_PAGE(g, 0, .state = aborted_state(state), .dirty = bits & 1, .cached = bits >> 1, .mark = 9);
-            expect(g, PHASE, IDLE);
-            expect(g, MIG, 0);
-            PASSES(g, ABORT);
-        }
+    EACH(phase, LIVE, BLACKOUT)
+        EACH(state, BASE)
+            EACH(bits, 0, 1, 2, 3)
+                abort_keeps_the_table(HERE, ONE(phase, .state = state, .dirty = bits & 1, .cached = bits >> 1, .mark = UINT64_MAX - state));
 }
 
 TEST(X14_abort_ends_the_session,

@@ -21,13 +21,14 @@ def _answer(*names):
 _TOKEN = _answer("code", "page")
 _SCAN = _answer("code", "next", "first", "last")
 _EXPORT = _answer("code", "info", "errors", "buffers")
+_LIST = _answer("code", "info")
 
 # What each call takes behind session and table (a slice is "s", a number "n"), and what it answers.
 _CALLS = {
     "new": ("n", _Number), "write": ("nn", _Number), "add": ("n", _Number), "accept": ("n", _Number), "block": ("n", _Number),
     "unblock": ("n", _Number), "remove": ("n", _Number), "track": ("", _Number), "start": ("", _Number), "pause": ("", _Number),
     "abort": ("", _Number), "new_epoch": ("", _Number), "reset": ("", _Number), "start_token": ("", _TOKEN),
-    "dscan": ("nnsn", _SCAN), "dcheck": ("sn", _SCAN), "export": ("ssnnnn", _EXPORT),
+    "dscan": ("nnsn", _SCAN), "dcheck": ("sn", _SCAN), "export": ("ssnnnn", _EXPORT), "restore": ("snn", _LIST),
 }
 
 
@@ -77,7 +78,7 @@ def as_bytes(numbers):
 
 
 def entry_for(page):
-    """An entry that asks for the export of a page."""
+    """An entry that asks for the export of a page, or in a restore for its return."""
     return 1 << 52 | page << 12
 
 

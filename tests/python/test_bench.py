@@ -1,4 +1,4 @@
-"""One whole migration over ctypes, replayed and compared, and some refusals."""
+"""Whole migrations over ctypes, replayed and compared, one of them after an abort, and some refusals."""
 
 import os
 import random
@@ -9,6 +9,7 @@ import chirpsteeple as chirp
 
 PAGES = 300
 MIGRATE, CANCEL, REMIGRATE = 1, 2, 3
+RESTORE = 1
 LIBRARY = chirp.load(os.path.abspath(sys.argv[1]))
 ALL = 1 << 63
 
@@ -105,6 +106,19 @@ class Migration:
             errors += status not in (0, 1)
         return errors
 
+    def round(self):
+        """Scan, track, export, with the guest at work; the next round needs a new epoch."""
+        entries = self.scan()
+        self.guest.work(5)
+        self.guest.must(self.bench.track())
+        self.export(entries, 5)
+
+    def finish(self, entries):
+        """In Blackout: sends what the check listed, in an epoch of its own. Returns what the token answers."""
+        self.guest.must(self.bench.new_epoch())
+        self.export(entries, 0)
+        return self.bench.start_token()
+
     def replayed(self):
         memory = {}
         for page, operation, pending, word in self.sent:
@@ -122,22 +136,79 @@ class WholeMigration(unittest.TestCase):
         guest.work(100)
         guest.must(bench.start())
         for round_number in range(4):
-            entries = migration.scan()
-            guest.work(5)
-            guest.must(bench.track())
-            migration.export(entries, 5)
+            migration.round()
             guest.give_up(10 * round_number)
             guest.must(bench.new_epoch())
         guest.must(bench.pause())
         entries = migration.check()
         self.assertEqual((chirp.words(bench.session)[0], len(entries) > 0), (2, True))
         self.assertEqual(bench.start_token()[0], 53)
-        guest.must(bench.new_epoch())
-        migration.export(entries, 0)
-        self.assertEqual(bench.start_token(), (chirp.DONE, 0))
+        self.assertEqual(migration.finish(entries), (chirp.DONE, 0))
         self.assertEqual(migration.replayed(), guest.memory)
         self.assertIn(17, migration.statuses)
         self.assertEqual({sent[1] for sent in migration.sent}, {MIGRATE, CANCEL, REMIGRATE})
+
+
+class AfterAnAbort(unittest.TestCase):
+    """The migration was given up after a round: every page that was sent waits to be restored."""
+
+    def setUp(self):
+        self.guest = Guest()
+        self.bench = self.guest.bench
+        self.guest.work(100)
+        self.guest.must(self.bench.start())
+        migration = Migration(self.guest)
+        migration.round()
+        self.sent = [page for page, *_ in migration.sent]
+        self.last = len(self.sent) - 1
+        self.asked = [chirp.entry_for(page) for page in self.sent]
+        self.table = bytes(self.bench.table)
+        self.guest.must(self.bench.abort())
+
+    def left(self):
+        """The pages that are exported, or were removed after their export."""
+        return {page for page in range(PAGES) if self.bench.table[chirp.PAGE_BYTES * page] >= 24}
+
+    def test_every_record_is_left(self):
+        self.assertEqual(bytes(self.bench.table), self.table)
+        self.assertEqual((chirp.words(self.bench.session)[0], chirp.words(self.bench.session)[3]), (0, 0))
+        self.assertEqual(self.left(), set(self.sent))
+
+    def test_a_start_is_45_and_a_write_lands(self):
+        page = next(page for page in self.sent if self.guest.memory[page] is not None)
+        self.assertEqual(self.bench.start(), 45)
+        self.assertEqual(bytes(self.bench.table), self.table)
+        self.assertEqual(self.bench.block(page), 45)
+        self.assertEqual(self.bench.write(page, 77), chirp.DONE)
+        self.assertEqual(chirp.words(self.bench.table)[2 * page + 1], 77)
+
+    def test_a_restore_that_is_refused_or_has_no_budget_leaves_every_byte(self):
+        listed, info = chirp.as_bytes(self.asked), chirp.info_for(0, self.last)
+        for wrong in (chirp.info_for(0, self.last + 1), chirp.info_for(1, 0), info | 1, info | 1 << 52):
+            with self.subTest(info=hex(wrong)):
+                self.assertEqual(self.bench.restore(listed, wrong, ALL), (42, 0))
+        self.assertEqual(self.bench.restore(listed[:-1], chirp.info_for(0, 0), ALL), (42, 0))
+        self.assertEqual(self.bench.restore(bytearray(), chirp.info_for(0, 0), ALL), (42, 0))
+        self.assertEqual(self.bench.restore(listed, info, 0), (chirp.INTERRUPTED, info))
+        self.assertEqual((chirp.words(listed), bytes(self.bench.table)), (self.asked, self.table))
+
+    def test_restored_in_two_calls_it_starts_again_and_gets_its_token(self):
+        listed, info, session = chirp.as_bytes(self.asked), chirp.info_for(0, self.last), bytes(self.bench.session)
+        code, info = self.bench.restore(listed, info, 100)
+        self.assertEqual((code, info), (chirp.INTERRUPTED, chirp.info_for(100, self.last)))
+        self.assertEqual((chirp.words(listed)[100:], self.left()), (self.asked[100:], set(self.sent[100:])))
+        self.assertEqual(self.bench.start(), 45)
+        self.assertEqual(self.bench.restore(listed, info, ALL), (chirp.DONE, chirp.info_for(self.last + 1, self.last)))
+        self.assertEqual([chirp.entry_fields(entry) for entry in chirp.words(listed)], [(page, RESTORE, 0, 0) for page in self.sent])
+        self.assertEqual((self.left(), bytes(self.bench.session)), (set(), session))
+
+        self.guest.must(self.bench.start())
+        migration = Migration(self.guest)
+        migration.round()
+        self.guest.must(self.bench.pause())
+        self.assertEqual(self.bench.restore(listed, chirp.info_for(0, self.last), ALL), (41, 0))
+        self.assertEqual(migration.finish(migration.check()), (chirp.DONE, 0))
+        self.assertEqual(migration.replayed(), self.guest.memory)
 
 
 class Refusals(unittest.TestCase):

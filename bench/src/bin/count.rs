@@ -20,9 +20,10 @@ impl Meter for Counted {
         work: Work,
         (library, rust): (impl Fn(&mut Guest, u64) -> A, impl Fn(&mut Guest, u64) -> A),
     ) {
-        let calls = work.steps.min(CALLS);
-        let guests = work.given.into_iter().take(1).collect();
-        let work = Work { given: guests, steps: calls, ..work };
+        let steps = work.steps.min(CALLS);
+        let given: Vec<Guest> = work.given.into_iter().take((CALLS / steps) as usize).collect();
+        let calls = given.len() as u64 * steps;
+        let work = Work { given, steps, ..work };
         work.compare(&library, &rust);
         marked(&work, library);
         marked(&work, rust);
@@ -31,10 +32,12 @@ impl Meter for Counted {
 }
 
 fn marked<A: Answer>(work: &Work, call: impl Fn(&mut Guest, u64) -> A) {
-    let mut guest = work.given[0].clone();
+    let mut guests = work.given.clone();
     chirpsteeple_mark();
-    for step in 0..work.steps {
-        keep(call(&mut guest, step).code());
+    for guest in &mut guests {
+        for step in 0..work.steps {
+            keep(call(guest, step).code());
+        }
     }
     chirpsteeple_mark();
 }

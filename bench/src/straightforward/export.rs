@@ -1,16 +1,12 @@
 //! 'Export of a list'.
 
+use super::lists::{field, first_and_last, ill_formed, page_of, with_first};
 use super::page::*;
 use super::session::{Phase, Session, Stream};
 use super::{set_word, word};
 use chirpsteeple_tests::bench::codes::*;
-use chirpsteeple_tests::bench::export::{operation, status};
+use chirpsteeple_tests::bench::lists::{operation, status};
 use host_tests::interface::ExportAnswer;
-
-/// The bits of `word` from `low` on, `width` of them.
-fn field(word: u64, low: u32, width: u32) -> u64 {
-    word >> low & ((1 << width) - 1)
-}
 
 #[inline(never)]
 #[allow(clippy::too_many_arguments)]
@@ -29,19 +25,13 @@ pub fn export(
         Ok(opened) => opened,
         Err(code) => return refused(code),
     };
-    let (first, last) = (field(info, 3, 9), field(info, 55, 9));
-    if stream >= opened.created - 1
-        || resume > 1
-        || list.is_empty()
-        || list.len() % 8 != 0
-        || list.len() > 8 * 512
-        || buffer.len() != list.len()
-        || field(info, 0, 3) != 0
-        || field(info, 52, 3) != 0
-        || last >= list.len() as u64 / 8
-    {
+    if stream >= opened.created - 1 || resume > 1 || buffer.len() != list.len() {
         return refused(OPERAND_INVALID);
     }
+    let (first, last) = match first_and_last(list, info) {
+        Some(found) => found,
+        None => return refused(OPERAND_INVALID),
+    };
     let stream = stream as usize;
     let mut done = match Stream::of(session, stream) {
         Some(found) if resume == 1 && found.next == first && found.last == last => found,
@@ -60,7 +50,7 @@ pub fn export(
         done.data += taken.data as u64;
         left -= 1;
     }
-    let info = info & !(0x1ff << 3) | (done.next % 512) << 3;
+    let info = with_first(info, done.next);
     if done.next <= last {
         Stream::write(Some(done), session, stream);
         return ExportAnswer { code: INTERRUPTED, info, errors: 0, buffers: 0 };
@@ -91,15 +81,10 @@ fn take(session: &Session, table: &mut [u8], entry: u64) -> Taken {
     }
 }
 
-fn page_of(entry: u64) -> u64 {
-    field(entry, 12, 40)
-}
-
 /// The state of the entry's page, or the status that says why it is not exported.
 fn exportable(session: &Session, table: &[u8], entry: u64) -> Result<u8, u64> {
-    let reserved = field(entry, 5, 2) | field(entry, 54, 2) | field(entry, 61, 3);
-    let (level, mig_type, asked) = (field(entry, 0, 2), field(entry, 10, 2), field(entry, 52, 2));
-    if reserved != 0 || level != 0 || mig_type != 0 || asked >= 2 {
+    let asked = field(entry, 52, 2);
+    if ill_formed(entry) || asked >= 2 {
         return Err(status::INVALID);
     }
     if asked == 0 {

@@ -79,10 +79,10 @@ pub fn add(session: &[u8], table: &mut [u8], page: u64) -> u64 {
 
 #[inline(never)]
 pub fn accept(session: &[u8], table: &mut [u8], page: u64) -> u64 {
-    code(Session::open(session, table, &GUEST).and_then(|_| {
+    code(Session::open(session, table, &GUEST).and_then(|session| {
         on_page(table, page, EPT_ENTRY_STATE_INCORRECT, |state, found| match state {
             2 => Ok(cleared(4, found)),
-            29 | 30 => Ok(cleared(25, found)),
+            29 | 30 if session.phase == Phase::Live => Ok(cleared(25, found)),
             _ => Err(EPT_ENTRY_STATE_INCORRECT),
         })
     }))
@@ -100,8 +100,8 @@ pub fn block(session: &[u8], table: &mut [u8], page: u64) -> u64 {
             let state = match state {
                 4 => 1,
                 2 => 3,
-                24 | 25 => 26,
-                29 | 30 => 31,
+                24 | 25 if session.phase == Phase::Live => 26,
+                29 | 30 if session.phase == Phase::Live => 31,
                 _ => return Err(EPT_ENTRY_STATE_INCORRECT),
             };
             Ok(Page { record: with_stamp(with_state(record, state), session.tlb), mark })
@@ -109,7 +109,7 @@ pub fn block(session: &[u8], table: &mut [u8], page: u64) -> u64 {
     }))
 }
 
-/// Unblock and remove: a page in a state that `moved` knows, tracked since it was blocked.
+/// Unblock and remove: a page in a state that `moved` knows, tracked since it was blocked, and not left in Idle by an abort.
 fn on_blocked_page(
     session: &[u8],
     table: &mut [u8],
@@ -119,6 +119,9 @@ fn on_blocked_page(
 ) -> u64 {
     code(Session::open(session, table, &GUEST).and_then(|session| {
         on_page(table, page, GPA_RANGE_NOT_BLOCKED, |state, found| {
+            if session.phase == Phase::Idle && state >= 24 {
+                return Err(EPT_ENTRY_STATE_INCORRECT);
+            }
             let state = moved(state).ok_or(GPA_RANGE_NOT_BLOCKED)?;
             if !tracked(found.record, session.tlb) {
                 return Err(TLB_TRACKING_NOT_DONE);

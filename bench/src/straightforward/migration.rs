@@ -6,12 +6,6 @@ use super::{code, set_word};
 use chirpsteeple_tests::bench::codes::*;
 use host_tests::interface::TokenAnswer;
 
-/// What start and abort leave of a record: no migration epoch, and a stamp in 1 and 3 alone.
-fn outside_epochs(state: u8, record: u64) -> u64 {
-    let record = with_epoch(record, 0);
-    if matches!(state, 1 | 3) { record } else { with_stamp(record, 0) }
-}
-
 #[inline(never)]
 pub fn start(session: &mut [u8], table: &mut [u8]) -> u64 {
     code(Session::open(session, table, &[Phase::Idle]).and_then(|_| {
@@ -43,19 +37,8 @@ pub fn pause(session: &mut [u8], table: &mut [u8]) -> u64 {
 }
 
 #[inline(never)]
-pub fn abort(session: &mut [u8], table: &mut [u8]) -> u64 {
+pub fn abort(session: &mut [u8], table: &[u8]) -> u64 {
     code(Session::open(session, table, &[Phase::Live, Phase::Blackout]).map(|_| {
-        change_all(table, |state, record| {
-            let state = match state {
-                24 | 25 => 4,
-                29 | 30 => 2,
-                26 => 1,
-                31 => 3,
-                27 => 0,
-                state => state,
-            };
-            outside_epochs(state, with_state(record, state))
-        });
         set_word(session, at::PHASE, Phase::Idle as u64);
         set_word(session, at::EPOCH, 0);
         reset_check(session);

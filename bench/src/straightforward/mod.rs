@@ -1,15 +1,18 @@
-//! The seventeen calls on byte slices, without a proof in mind and without tricks: the session is read and checked whole, the table is walked and changed in place.
+//! The eighteen calls on byte slices, without a proof in mind and without tricks: the session is read and checked whole, the table is walked and changed in place.
 
 mod export;
+mod lists;
 mod memory;
 mod migration;
 mod page;
+mod restore;
 mod scan;
 mod session;
 
 pub use export::export;
 pub use memory::{accept, add, block, new, remove, track, unblock, write};
 pub use migration::{abort, new_epoch, pause, start, start_token};
+pub use restore::restore;
 pub use scan::{dcheck, dscan, reset};
 
 use chirpsteeple_tests::bench::codes::DONE;

@@ -36,6 +36,12 @@ pub fn with_epoch(record: u64, epoch: u64) -> u64 {
     record & !EPOCH | epoch << 32
 }
 
+/// What start and RESTORE leave of a record: no migration epoch, and a stamp in 1 and 3 alone.
+pub fn outside_epochs(state: u8, record: u64) -> u64 {
+    let record = with_epoch(record, 0);
+    if matches!(state, 1 | 3) { record } else { with_stamp(record, 0) }
+}
+
 /// Stamped before the TLB epoch began.
 pub fn tracked(record: u64, tlb: u64) -> bool {
     (1..tlb).contains(&stamp(record))

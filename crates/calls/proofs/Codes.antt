@@ -30,10 +30,12 @@ use Rattle.scan.specs.Scan.{ScanOutcome, dscanTests, dscanCode, dscanOf, dscanO
 use Rattle.scan.proofs.Outcomes.{OfScans, range-code, dscan-either, dchecked, dcheck-either}
 use Rattle.export.specs.Export.{exportTests, exportCode, ExportOutcome, exportOut}
 use Rattle.export.proofs.Moves.{exported, export-either, finished-code}
+use Rattle.restore.specs.Restore.{restoreAsks, restoreCode, RestoreOutcome, restoreRun, restoreOut}
+use Rattle.restore.proofs.Moves.{restore-either, ended-code}
 use Rattle.calls.specs.Calls.{effectOf}
 use Rattle.calls.specs.Promises.{named, AnswersNamed, isNew}
 use Rattle.calls.specs.declared.Call.{Call}
-use Rattle.calls.specs.declared.Call.the-variants.{New, OnPage, OnAll, OnSession, StartToken, Dscan, Dcheck, Export}
+use Rattle.calls.specs.declared.Call.the-variants.{New, OnPage, OnAll, OnSession, StartToken, Dscan, Dcheck, Export, Restore}
 
 -- a refusal's code is one of them
 refusals-named : (l : List Test) → allCodes refuses l ≡ true → allCodes named l ≡ true
@@ -71,7 +73,7 @@ scans-named = record { done = refl; interrupted = refl; full = refl; complete = 
 
 module _ (s : Session) (t l b : List ℕ) where
   code-named : (c : Call) → named (effectOf c s t l b .returned .code) ≡ true
-  unfolding newOut newCode tokenOut tokenCode dscanCode dcheckCode exportCode
+  unfolding newOut newCode tokenOut tokenCode dscanCode dcheckCode exportCode restoreCode
   code-named (New created) =
       answered-named (newCode (length t) created) s t (newSession (pageCount t) created) (replicate (length t) 0)
       (first-all named (not (legal (length t)) gives codes.malformed ∷ not (within fewestCreated mostCreated created) gives codes.operandInvalid
@@ -92,6 +94,10 @@ module _ (s : Session) (t l b : List ℕ) where
       export-either (λ (o : ExportOutcome). named (o .answer .code) ≡ true) s t l b stream resume info budget
       (finished-code named s stream (infoOf info) (exported s t l b stream info budget .at) refl refl)
       (gated-named s (length t) moving (exportTests s (length l) (length b) stream resume (infoOf info)) refl)
+  code-named (Restore info budget) =
+      restore-either (λ (o : RestoreOutcome). named (o .answer .code) ≡ true) s t l info budget
+      (λ e. ended-code named (infoOf info) (restoreRun s t l (infoOf info) budget .at .next) refl refl)
+      (λ e. gated-named s (length t) (phase.Idle ∷ []) (restoreAsks (length l) (infoOf info)) refl)
 
 pub answers-named : AnswersNamed
 answers-named = record { code = λ c s t l b. code-named s t l b c }
@@ -106,7 +112,7 @@ module _ (s : Session) (t l b : List ℕ) (f : formed s (length t) ≡ false) wh
   answered-first code s' t' e = answered-either (λ (o : Outcome). o .answer .code ≡ codes.malformed) code s t s' t' (λ q. e) (λ q. e)
 
   pub unformed-code : (c : Call) → isNew c ≡ false → effectOf c s t l b .returned .code ≡ codes.malformed
-  unfolding onAll sweepCode onSession aloneCode tokenOut tokenCode dscanOut dscanCode dcheckOut dcheckCode exportOut exportCode
+  unfolding onAll sweepCode onSession aloneCode tokenOut tokenCode dscanOut dscanCode dcheckOut dcheckCode exportOut exportCode restoreOut restoreCode
   unformed-code (New created) e = absurd (true≢false e)
   unformed-code (OnPage page m) e = page-code m s t page ∙ rw f
   unformed-code (OnAll k) e = answered-first _ _ _ (gated-first (phasesOf (sweepWhen k)) _)
@@ -115,3 +121,4 @@ module _ (s : Session) (t l b : List ℕ) (f : formed s (length t) ≡ false) wh
   unformed-code (Dscan first count budget) e = rw (gated-first (phase.Live ∷ []) (dscanTests s (length l) first count))
   unformed-code (Dcheck budget) e = rw (gated-first (phase.Blackout ∷ []) (dcheckTests s (length l)))
   unformed-code (Export stream resume info budget) e = rw (gated-first moving (exportTests s (length l) (length b) stream resume (infoOf info)))
+  unformed-code (Restore info budget) e = rw (gated-first (phase.Idle ∷ []) (restoreAsks (length l) (infoOf info)))

@@ -33,12 +33,15 @@ use Rattle.scan.specs.Scan.{ScanOutcome, dscanOf, dcheckOf, checkedBy}
 use Rattle.scan.proofs.Outcomes.{OfScans, range-code, look-page, dscan-either, dscan-strange, dchecked, dcheck-either, dcheck-strange}
 use Rattle.scan.proofs.RangeLaws.{range-page}
 use Rattle.lists.proofs.Moves.{step-other}
-use Rattle.export.specs.Export.{exportStep, ExportOutcome}
+use Rattle.lists.specs.Kinds.{takenBy}
+use Rattle.export.specs.Export.{ExportOutcome}
 use Rattle.export.proofs.Moves.{exported, step-page, step-failed, export-either, export-strange, finished-code}
-use Rattle.calls.specs.Calls.{effect, scanEffect, exportEffect, effectOf}
+use Rattle.restore.specs.Restore.{RestoreOutcome, restoreRun}
+use Rattle.restore.proofs.Moves as restoring
+use Rattle.calls.specs.Calls.{effect, scanEffect, exportEffect, restoreEffect, effectOf}
 use Rattle.calls.specs.Promises.{OneOutcome, refusal, Kept, RefusalKeeps, isNew, StrangeStays, PagesMove}
 use Rattle.calls.specs.declared.Call.{Call}
-use Rattle.calls.specs.declared.Call.the-variants.{New, OnPage, OnAll, OnSession, StartToken, Dscan, Dcheck, Export}
+use Rattle.calls.specs.declared.Call.the-variants.{New, OnPage, OnAll, OnSession, StartToken, Dscan, Dcheck, Export, Restore}
 
 pub one-outcome : OneOutcome
 one-outcome =
@@ -141,6 +144,11 @@ module _ (s : Session) (t l b : List ℕ) where
       (λ x. absurd (no-refusal _ (finished-code ran s stream (infoOf info) (exported s t l b stream info budget .at) refl refl) x))
       (λ x. as-came _ 0 s t refl refl)
       r
+  keeps (Restore info budget) r =
+      restoring.restore-either (λ (o : RestoreOutcome). refusal (o .answer .code) ≡ true → Kept s t l b (restoreEffect o b)) s t l info budget
+      (λ e x. absurd (no-refusal _ (restoring.ended-code ran (infoOf info) (restoreRun s t l (infoOf info) budget .at .next) refl refl) x))
+      (λ e x. as-came _ 0 s t refl refl)
+      r
 
   page-zero : (c : Call) → eqb (effectOf c s t l b .returned .code) codes.exportedDirtyPagesRemain ≡ false →
       eqb (effectOf c s t l b .returned .code) codes.unexportedMemoryRemains ≡ false → effectOf c s t l b .returned .page ≡ 0
@@ -152,6 +160,7 @@ module _ (s : Session) (t l b : List ℕ) where
   page-zero (Dscan first count budget) e f = refl
   page-zero (Dcheck budget) e f = refl
   page-zero (Export stream resume info budget) e f = refl
+  page-zero (Restore info budget) e f = refl
 
 pub refusal-keeps : RefusalKeeps
 refusal-keeps = record { all = λ c s t l b r. keeps s t l b c r; page = λ c s t l b e f. page-zero s t l b c e f }
@@ -191,6 +200,7 @@ module _ (s : Session) (t l b : List ℕ) (i : ℕ) (e : strange (pageAt t i) �
   strange-words (Dscan first count budget) n = dscan-strange s t l first count budget i e
   strange-words (Dcheck budget) n = dcheck-strange s t l budget i e
   strange-words (Export stream resume info budget) n = export-strange s t l b stream resume info budget i e
+  strange-words (Restore info budget) n = restoring.restore-strange s t l info budget i e
 
 pub strange-stays : StrangeStays
 strange-stays = record { words = λ c s t l b i n e. strange-words s t l b i e c n }
@@ -209,7 +219,9 @@ pages-move = record {
   all = sweep-done;
   entry = step-page;
   failed = step-failed;
-  beside = λ g. step-other (exportStep g);
+  restores = restoring.step-page;
+  unrestored = restoring.step-failed;
+  beside = λ kind g. step-other (takenBy kind g);
   range = range-page;
   look = look-page;
 }

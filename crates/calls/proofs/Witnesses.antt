@@ -11,12 +11,13 @@ use Rattle.session.specs.Formed.{formed, busy, gated}
 use Rattle.session.specs.Outcome.{answered}
 use Rattle.memory.specs.Memory.{onPage}
 use Rattle.entry.specs.Entry.{invalid, unexportable, statusOf, sentEntry, failedEntry, takenOf}
+use Rattle.restoring.specs.Restoring.{faulty, restoreStatus, restoredEntry, leftEntry, restoredOf}
 use Rattle.migration.specs.Migration.{sweepCode, onAll}
 use Rattle.calls.specs.Witnesses.{Met}
 
 pub met : Met
 unfolding legal formed busy gated answered recordOf plain stateOf isStrange isIn hasMove pageOf tracked wordsAt invalid unexportable statusOf sentEntry
-    failedEntry takenOf onPage sweepCode onAll entryOf
+    failedEntry takenOf faulty restoreStatus restoredEntry leftEntry restoredOf onPage sweepCode onAll entryOf
 met =
     record {
       refuses = refl;
@@ -32,6 +33,8 @@ met =
       entry = lit< tt;
       succeeds = refl;
       fails = λ e. omega (arith, e);
+      restores = refl;
+      unrestored = λ e. omega (arith, e);
       beside = λ e. omega arith;
       range = lit≤ tt;
       look = lit< tt;

@@ -12,8 +12,10 @@ use Rattle.scan.specs.Scan.{ScanOutcome, dscanOut, dcheckOut}
 use Rattle.scan.specs.declared.ScanAnswer.{ScanAnswer}
 use Rattle.export.specs.Export.{ExportOutcome, exportOut}
 use Rattle.export.specs.declared.ExportAnswer.{ExportAnswer}
+use Rattle.restore.specs.Restore.{RestoreOutcome, restoreOut}
+use Rattle.restore.specs.declared.ListAnswer.{ListAnswer}
 use Rattle.calls.specs.declared.Call.{Call}
-use Rattle.calls.specs.declared.Call.the-variants.{New, OnPage, OnAll, OnSession, StartToken, Dscan, Dcheck, Export}
+use Rattle.calls.specs.declared.Call.the-variants.{New, OnPage, OnAll, OnSession, StartToken, Dscan, Dcheck, Export, Restore}
 use Rattle.calls.specs.declared.Returned.{Returned}
 
 pub record Effect : Type 0 where
@@ -49,6 +51,10 @@ abbrev pub exportNumbers : ExportAnswer → Returned
 exportNumbers a =
     record { code = a .code; page = 0; next = 0; first = 0; last = 0; info = a .info; errors = a .errors; buffers = a .buffers; session = a .session }
 
+abbrev pub listNumbers : ListAnswer → Returned
+listNumbers a =
+    record { code = a .code; page = 0; next = 0; first = 0; last = 0; info = a .info; errors = 0; buffers = 0; session = a .session }
+
 -- a call that takes no list leaves the list and the buffer
 abbrev pub effect : Outcome → List ℕ → List ℕ → Effect
 effect o l b = record { returned = withoutNumbers (o .answer); table = o .table; list = l; buffer = b }
@@ -64,6 +70,10 @@ scanEffect o b = record { returned = scanNumbers (o .answer); table = o .table; 
 abbrev pub exportEffect : ExportOutcome → Effect
 exportEffect o = record { returned = exportNumbers (o .answer); table = o .table; list = o .list; buffer = o .buffer }
 
+-- RESTORE takes no buffer
+abbrev pub restoreEffect : RestoreOutcome → List ℕ → Effect
+restoreEffect o b = record { returned = listNumbers (o .answer); table = o .table; list = o .list; buffer = b }
+
 abbrev pub effectOf : Call → Session → List ℕ → List ℕ → List ℕ → Effect
 effectOf (New created) s t l b = effect (newOut s t created) l b
 effectOf (OnPage page m) s t l b = effect (onPage m s t page) l b
@@ -73,3 +83,4 @@ effectOf StartToken s t l b = tokenEffect (tokenOut s t) t l b
 effectOf (Dscan first count budget) s t l b = scanEffect (dscanOut s t l first count budget) b
 effectOf (Dcheck budget) s t l b = scanEffect (dcheckOut s t l budget) b
 effectOf (Export stream resume info budget) s t l b = exportEffect (exportOut s t l b stream resume info budget)
+effectOf (Restore info budget) s t l b = restoreEffect (restoreOut s t l info budget) b

@@ -9,7 +9,7 @@ use Rattle.words.specs.Codes as codes
 use Rattle.page.specs.Page.{pageOf, strange}
 use Rattle.page.specs.Moves.{movedBy}
 use Rattle.page.specs.Page.{unlessStrange}
-use Rattle.page.specs.Sweeps.{sweptBy}
+use Rattle.page.specs.Sweeps.{sweptBy, restored}
 use Rattle.page.specs.declared.Clock.{Clock}
 use Rattle.page.specs.declared.PageWords.{PageWords}
 use Rattle.page.specs.declared.moves.Move.{Move}
@@ -24,11 +24,14 @@ use Rattle.scan.specs.Scan.{rangeRun}
 use Rattle.scan.specs.declared.Scan.{Scan}
 use Rattle.entry.specs.Entry.{exportedPage}
 use Rattle.entry.specs.declared.Ground.{Ground}
+use Rattle.lists.specs.Kinds.{takenBy}
 use Rattle.lists.specs.Run.{Standing, gpaOf, taking, stepped}
+use Rattle.lists.specs.declared.Kind.{Kind}
 use Rattle.export.specs.Export.{exportStep}
+use Rattle.restore.specs.Restore.{restoreStep}
 use Rattle.calls.specs.Calls.{Effect, effectOf}
 use Rattle.calls.specs.declared.Call.{Call}
-use Rattle.calls.specs.declared.Call.the-variants.{New, OnPage, OnAll, OnSession, StartToken, Dscan, Dcheck, Export}
+use Rattle.calls.specs.declared.Call.the-variants.{New, OnPage, OnAll, OnSession, StartToken, Dscan, Dcheck, Export, Restore}
 use Rattle.calls.specs.declared.Returned.{Returned}
 
 -- what a call's contract says of an answer, and of the table, the list and the buffer that it leaves
@@ -90,6 +93,7 @@ isNew StartToken = false
 isNew (Dscan first count budget) = false
 isNew (Dcheck budget) = false
 isNew (Export stream resume info budget) = false
+isNew (Restore info budget) = false
 
 -- no call but New changes a strange record
 pub record StrangeStays : Type 0 where
@@ -110,7 +114,11 @@ pub record PagesMove : Type 0 where
       pageAt (stepped (exportStep g) x .table) (gpaOf x) ≡ exportedPage (g .epoch) (pageAt (x .table) (gpaOf x))
   pub failed : (g : Ground) (x : Standing) → (taking (exportStep g) x .status ≡ 0 → ⊥) →
       wordsAt (stepped (exportStep g) x .table) (gpaOf x) ≡ wordsAt (x .table) (gpaOf x)
-  pub beside : (g : Ground) (x : Standing) (k : ℕ) → (k ≡ gpaOf x → ⊥) → wordsAt (stepped (exportStep g) x .table) k ≡ wordsAt (x .table) k
+  pub restores : (g : Ground) (x : Standing) → gpaOf x < pageCount (x .table) → taking (restoreStep g) x .status ≡ 0 →
+      pageAt (stepped (restoreStep g) x .table) (gpaOf x) ≡ restored (pageAt (x .table) (gpaOf x))
+  pub unrestored : (g : Ground) (x : Standing) → (taking (restoreStep g) x .status ≡ 0 → ⊥) →
+      wordsAt (stepped (restoreStep g) x .table) (gpaOf x) ≡ wordsAt (x .table) (gpaOf x)
+  pub beside : (kind : Kind) (g : Ground) (x : Standing) (k : ℕ) → (k ≡ gpaOf x → ⊥) → wordsAt (stepped (takenBy kind g) x .table) k ≡ wordsAt (x .table) k
   pub range : (count : ℕ) (scan : Scan) (t l : List ℕ) → 2 * scan .first + 2 * count ≤ length t → (k : ℕ) →
       LookedAt k (scan .clock) (wordsAt t k) (wordsAt (rangeRun count scan t l .part) k)
   pub look : (w : PageWords) (number : ℕ) (clock : Clock) → clock .tlb < 2 ^ 16 → pageOf (lookOf w number clock .words) ≡ listedPage clock (pageOf w)

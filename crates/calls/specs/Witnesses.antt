@@ -17,6 +17,7 @@ use Rattle.memory.specs.Memory.{onPage}
 use Rattle.entry.specs.declared.Ground.{Ground}
 use Rattle.lists.specs.Run.{Standing, standing, gpaOf, taking}
 use Rattle.export.specs.Export.{exportStep}
+use Rattle.restore.specs.Restore.{restoreStep}
 use Rattle.calls.specs.Calls.{effectOf}
 use Rattle.calls.specs.Promises.{refusal, isNew}
 use Rattle.calls.specs.declared.Call.the-variants.{OnAll}
@@ -43,6 +44,10 @@ export t = standing (record { next = 0; errors = 0; filled = 0 }) t (0x001000000
 abbrev pub before : Standing
 before = export (0x10004 ∷ 0 ∷ [])
 
+-- EXPORTED, as a migration left it
+abbrev pub leftBehind : Standing
+leftBehind = export (0x18 ∷ 0 ∷ [])
+
 abbrev pub unready : Standing
 unready = export free
 
@@ -63,6 +68,8 @@ pub record Met : Type 0 where
   pub entry : gpaOf before < pageCount (before .table)
   pub succeeds : taking (exportStep ground) before .status ≡ 0
   pub fails : taking (exportStep ground) unready .status ≡ 0 → ⊥
+  pub restores : taking (restoreStep ground) leftBehind .status ≡ 0
+  pub unrestored : taking (restoreStep ground) unready .status ≡ 0 → ⊥
   pub beside : 1 ≡ gpaOf before → ⊥
   pub range : 2 * 0 + 2 * 1 ≤ length free
   pub look : fresh .clock .tlb < 2 ^ 16

@@ -1,12 +1,13 @@
 // Every call of the bench as one data type, by shape, so that what holds of all calls, or of all calls of a shape, is said once.
 ghost use mathlib.Core.Path.{_≡_};
 ghost use mathlib.Core.List.{[]};
-ghost use Rattle.calls.specs.Calls.{withoutNumbers, scanNumbers, exportNumbers, effectOf};
+ghost use Rattle.calls.specs.Calls.{withoutNumbers, scanNumbers, exportNumbers, listNumbers, effectOf};
 use export::ExportAnswer;
 use migration::Alone;
 use migration::token;
 use page::moves::Move;
 use page::sweeps::Sweep;
+use restore::ListAnswer;
 use scan::ScanAnswer;
 use session::Answer;
 use session::Session;
@@ -20,11 +21,11 @@ pub enum Call {
         page: usize,
         made: Move,
     },
-    // Track, start, pause, abort.
+    // Track, start, pause.
     OnAll {
         sweep: Sweep,
     },
-    // New epoch, reset.
+    // New epoch, reset, abort.
     OnSession {
         alone: Alone,
     },
@@ -43,6 +44,10 @@ pub enum Call {
         info: u64,
         budget: u64,
     },
+    Restore {
+        info: u64,
+        budget: u64,
+    },
 }
 
 // A call's answer in numbers. Those that a call does not give are 0, and so are all but the code of a refusal and the page of 53 and 54.
@@ -54,8 +59,9 @@ pub struct Returned {
     pub next: usize,
     pub first: u64,
     pub last: u64,
-    // An export's.
+    // An export's, and RESTORE's.
     pub info: u64,
+    // An export's.
     pub errors: u64,
     pub buffers: u64,
     pub session: Session,
@@ -112,6 +118,23 @@ fn export_numbers(a: ExportAnswer) -> Returned
     }
 }
 
+fn list_numbers(a: ListAnswer) -> Returned
+    ensures { λ r. ⌜ r ≡ listNumbers a ⌝ }
+{
+    let session = a.session;
+    Returned {
+        code: a.code,
+        page: 0,
+        next: 0,
+        first: 0,
+        last: 0,
+        info: a.info,
+        errors: 0,
+        buffers: 0,
+        session,
+    }
+}
+
 fn start_token(s: Session, table: &[u64]) -> Returned
     ensures { λ r. ⌜ r ≡ effectOf Call.StartToken s (now (table .entry)) [] [] .returned ⌝ }
 {
@@ -164,5 +187,8 @@ pub fn perform(
             info,
             budget,
         } => export_numbers(export::export(s, table, list, buffer, stream, resume, info, budget)),
+        Call::Restore { info, budget } => {
+            list_numbers(restore::restore(s, table, list, info, budget))
+        }
     }
 }

@@ -1,16 +1,17 @@
--- What each of the seventeen functions leaves: the host's call, on what its caller lends.
+-- What each of the eighteen functions leaves: the host's call, on what its caller lends.
 use mathlib.Core.List.{List}
 use Prim.Native.Nat.{ℕ}
 use lib.Dec.{eqb}
 use Rattle.page.specs.declared.moves.Move.the-variants.{Write, Add, Accept, Block, Unblock, Remove}
-use Rattle.page.specs.declared.sweeps.Sweep.the-variants.{Track, Start, Pause, Abort}
-use Rattle.migration.specs.declared.Alone.the-variants.{NewEpoch, Reset}
-use Rattle.calls.specs.declared.Call.the-variants.{New, OnPage, OnAll, OnSession, StartToken, Dscan, Dcheck, Export}
+use Rattle.page.specs.declared.sweeps.Sweep.the-variants.{Track, Start, Pause}
+use Rattle.migration.specs.declared.Alone.the-variants.{NewEpoch, Reset, Abort}
+use Rattle.calls.specs.declared.Call.the-variants.{New, OnPage, OnAll, OnSession, StartToken, Dscan, Dcheck, Export, Restore}
 use Rattle.host.specs.Host.{lentAll, lentList, lent, Left, hostOf}
 use Rattle.host.specs.declared.answers.Numbers.{Numbers}
 use Rattle.chirpsteeple.specs.declared.ChirpTokenAnswer.{ChirpTokenAnswer}
 use Rattle.chirpsteeple.specs.declared.ChirpScanAnswer.{ChirpScanAnswer}
 use Rattle.chirpsteeple.specs.declared.ChirpExportAnswer.{ChirpExportAnswer}
+use Rattle.chirpsteeple.specs.declared.ChirpListAnswer.{ChirpListAnswer}
 
 -- ---- on session and table
 
@@ -44,14 +45,14 @@ startLeft s t = hostOf (OnAll Start) (lent s t)
 abbrev pub pauseLeft : List ℕ → List ℕ → Left
 pauseLeft s t = hostOf (OnAll Pause) (lent s t)
 
-abbrev pub abortLeft : List ℕ → List ℕ → Left
-abortLeft s t = hostOf (OnAll Abort) (lent s t)
-
 abbrev pub newEpochLeft : List ℕ → List ℕ → Left
 newEpochLeft s t = hostOf (OnSession NewEpoch) (lent s t)
 
 abbrev pub resetLeft : List ℕ → List ℕ → Left
 resetLeft s t = hostOf (OnSession Reset) (lent s t)
+
+abbrev pub abortLeft : List ℕ → List ℕ → Left
+abortLeft s t = hostOf (OnSession Abort) (lent s t)
 
 abbrev pub tokenLeft : List ℕ → List ℕ → Left
 tokenLeft s t = hostOf StartToken (lent s t)
@@ -68,6 +69,9 @@ abbrev pub exportLeft : List ℕ → List ℕ → List ℕ → List ℕ → ℕ 
 exportLeft s t l b stream resume info budget =
     hostOf (Export stream (eqb resume 1) info budget) (lentAll s t l b resume)
 
+abbrev pub restoreLeft : List ℕ → List ℕ → List ℕ → ℕ → ℕ → Left
+restoreLeft s t l info budget = hostOf (Restore info budget) (lentList s t l)
+
 -- ---- what C gets of the numbers
 
 abbrev pub tokenToC : Numbers → ChirpTokenAnswer
@@ -78,3 +82,6 @@ scanToC n = record { code = n .code; next = n .next; first = n .first; last = n 
 
 abbrev pub exportToC : Numbers → ChirpExportAnswer
 exportToC n = record { code = n .code; info = n .info; errors = n .errors; buffers = n .buffers }
+
+abbrev pub listToC : Numbers → ChirpListAnswer
+listToC n = record { code = n .code; info = n .info }

@@ -1,14 +1,15 @@
-// The seventeen functions that C, Rust and Python call, on numbers and byte slices. No caller is asked to have checked anything.
+// The eighteen functions that C, Rust and Python call, on numbers and byte slices. No caller is asked to have checked anything.
 ghost use mathlib.Core.Path.{_≡_};
 ghost use Rattle.host.specs.Host.{Left};
 ghost use Rattle.chirpsteeple.specs.Functions.{newLeft, writeLeft, addLeft, acceptLeft, blockLeft, unblockLeft, removeLeft};
-ghost use Rattle.chirpsteeple.specs.Functions.{trackLeft, startLeft, pauseLeft, abortLeft, newEpochLeft, resetLeft};
-ghost use Rattle.chirpsteeple.specs.Functions.{tokenLeft, dscanLeft, dcheckLeft, exportLeft, tokenToC, scanToC, exportToC};
+ghost use Rattle.chirpsteeple.specs.Functions.{trackLeft, startLeft, pauseLeft, newEpochLeft, resetLeft, abortLeft};
+ghost use Rattle.chirpsteeple.specs.Functions.{tokenLeft, dscanLeft, dcheckLeft, exportLeft, restoreLeft, tokenToC, scanToC, exportToC, listToC};
 use host::answers::Numbers;
 use host::pages;
 use host::sweeps;
 use host::tables;
 use host_lists::exports;
+use host_lists::restores;
 use host_lists::scans;
 use migration::Alone;
 use page::moves::Move;
@@ -35,6 +36,13 @@ pub struct ChirpExportAnswer {
     pub info: u64,
     pub errors: u64,
     pub buffers: u64,
+}
+
+// What RESTORE answers.
+#[repr(C)]
+pub struct ChirpListAnswer {
+    pub code: u64,
+    pub info: u64,
 }
 
 // ---- New, and the guest and memory calls
@@ -132,15 +140,6 @@ pub extern "C" fn chirp_pause(session: &mut [u8], table: &mut [u8]) -> u64
 }
 
 #[no_mangle]
-pub extern "C" fn chirp_abort(session: &mut [u8], table: &mut [u8]) -> u64
-    ensures { λ r. ⌜ r ≡ abortLeft (now (session .entry)) (now (table .entry)) .answer .code ⌝ }
-    ensures { λ _. ⌜ now (session .exit) ≡ abortLeft (now (session .entry)) (now (table .entry)) .session ⌝ }
-    ensures { λ _. ⌜ now (table .exit) ≡ abortLeft (now (session .entry)) (now (table .entry)) .table ⌝ }
-{
-    sweeps::on_all(Sweep::Abort, session, table)
-}
-
-#[no_mangle]
 pub extern "C" fn chirp_new_epoch(session: &mut [u8], table: &[u8]) -> u64
     ensures { λ r. ⌜ r ≡ newEpochLeft (now (session .entry)) (now (table .entry)) .answer .code ⌝ }
     ensures { λ _. ⌜ now (session .exit) ≡ newEpochLeft (now (session .entry)) (now (table .entry)) .session ⌝ }
@@ -159,6 +158,15 @@ pub extern "C" fn chirp_reset(session: &mut [u8], table: &[u8]) -> u64
 }
 
 #[no_mangle]
+pub extern "C" fn chirp_abort(session: &mut [u8], table: &[u8]) -> u64
+    ensures { λ r. ⌜ r ≡ abortLeft (now (session .entry)) (now (table .entry)) .answer .code ⌝ }
+    ensures { λ _. ⌜ now (session .exit) ≡ abortLeft (now (session .entry)) (now (table .entry)) .session ⌝ }
+    ensures { λ _. ⌜ now (table .exit) ≡ abortLeft (now (session .entry)) (now (table .entry)) .table ⌝ }
+{
+    tables::on_session(Alone::Abort, session, table)
+}
+
+#[no_mangle]
 pub extern "C" fn chirp_start_token(session: &mut [u8], table: &[u8]) -> ChirpTokenAnswer
     ensures { λ r. ⌜ r ≡ tokenToC (tokenLeft (now (session .entry)) (now (table .entry)) .answer) ⌝ }
     ensures { λ _. ⌜ now (session .exit) ≡ tokenLeft (now (session .entry)) (now (table .entry)) .session ⌝ }
@@ -171,7 +179,7 @@ pub extern "C" fn chirp_start_token(session: &mut [u8], table: &[u8]) -> ChirpTo
     }
 }
 
-// ---- scans and export
+// ---- scans, export and RESTORE
 
 fn scan_answer(n: Numbers) -> ChirpScanAnswer
     ensures { λ r. ⌜ r ≡ scanToC n ⌝ }
@@ -251,5 +259,25 @@ pub extern "C" fn chirp_export(
         info: n.info,
         errors: n.errors,
         buffers: n.buffers,
+    }
+}
+
+#[no_mangle]
+pub extern "C" fn chirp_restore(
+    session: &[u8],
+    table: &mut [u8],
+    list: &mut [u8],
+    info: u64,
+    budget: u64,
+) -> ChirpListAnswer
+    ensures { λ r. ⌜ r ≡ listToC (restoreLeft (now (session .entry)) (now (table .entry)) (now (list .entry)) info budget .answer) ⌝ }
+    ensures { λ _. ⌜ now (session .exit) ≡ restoreLeft (now (session .entry)) (now (table .entry)) (now (list .entry)) info budget .session ⌝ }
+    ensures { λ _. ⌜ now (table .exit) ≡ restoreLeft (now (session .entry)) (now (table .entry)) (now (list .entry)) info budget .table ⌝ }
+    ensures { λ _. ⌜ now (list .exit) ≡ restoreLeft (now (session .entry)) (now (table .entry)) (now (list .entry)) info budget .list ⌝ }
+{
+    let n = restores::restore(session, table, list, info, budget);
+    ChirpListAnswer {
+        code: n.code,
+        info: n.info,
     }
 }

@@ -12,7 +12,7 @@ use Rattle.words.specs.Info.{infoOf}
 use Rattle.refusals.specs.Refusals.{_gives_}
 use Rattle.refusals.proofs.Laws.{either, passed, first-all, not-false}
 use Rattle.page.specs.declared.sweeps.Sweep.{Sweep}
-use Rattle.page.specs.declared.sweeps.Sweep.the-variants.{Track, Start, Pause, Abort}
+use Rattle.page.specs.declared.sweeps.Sweep.the-variants.{Track, Start, Pause}
 use Rattle.table.specs.Table.{legal, wordsAt}
 use Rattle.session.specs.Session.{moving, streamPlaces, newSession, withPhase, workOf}
 use Rattle.session.specs.Formed.{lastEpoch, fewestCreated, mostCreated, within, usable}
@@ -25,8 +25,8 @@ use Rattle.memory.specs.Memory.{newCode}
 use Rattle.migration.specs.Migration.{sweepNext, aloneNext}
 use Rattle.migration.specs.Token.{tokenTests, tokenCode}
 use Rattle.migration.specs.declared.Alone.{Alone}
-use Rattle.migration.specs.declared.Alone.the-variants.{NewEpoch, Reset}
-use Rattle.migration.proofs.Laws.{SweepOpen, AloneOpen, alone-leaves}
+use Rattle.migration.specs.declared.Alone.the-variants.{NewEpoch, Reset, Abort}
+use Rattle.migration.proofs.Laws.{SweepOpen, AloneOpen}
 use Rattle.scan.specs.Look.{lookOf}
 use Rattle.scan.specs.Scan.{stopTests, stopCode, ScanOut, scanRun, partOf, rangeRun, checkedBy, dcheckTests, dcheckCode, dcheckOf}
 use Rattle.scan.specs.declared.Scan.{Scan}
@@ -57,21 +57,22 @@ pub sweep-made : (k : Sweep) (s : Session) (t : List ℕ) → SweepOpen k s t �
 sweep-made Track s t o = track-formed (formed-means s (length t) (o .formed)) (leb-false lastEpoch (s .clock .tlb) (o .passed .0))
 sweep-made Start s t o = start-formed (formed-means s (length t) (o .formed))
 sweep-made Pause s t o = pause-formed (formed-means s (length t) (o .formed)) (o .comes)
-sweep-made Abort s t o = abort-formed (formed-means s (length t) (o .formed))
 
 -- and it has its eight streams
 pub sweep-streams : (k : Sweep) (s : Session) → length (s .streams) ≡ streamPlaces → length (sweepNext k s .streams) ≡ streamPlaces
 sweep-streams Track s n = n
 sweep-streams Start s n = refl
 sweep-streams Pause s n = n
-sweep-streams Abort s n = refl
 
 pub alone-made : (k : Alone) (s : Session) (len : ℕ) → AloneOpen k s len → Formed (aloneNext k s) len
 alone-made NewEpoch s len o = epoch-formed (formed-means s len (o .formed)) (o .comes) (leb-false lastEpoch (s .epoch) (o .passed .1 .0))
 alone-made Reset s len o = reset-formed (formed-means s len (o .formed))
+alone-made Abort s len o = abort-formed (formed-means s len (o .formed))
 
 pub alone-streams : (k : Alone) (s : Session) → length (s .streams) ≡ streamPlaces → length (aloneNext k s .streams) ≡ streamPlaces
-alone-streams k s n = rw (alone-leaves k s .streams) n
+alone-streams NewEpoch s n = n
+alone-streams Reset s n = n
+alone-streams Abort s n = refl
 
 -- ---- the token
 

@@ -1,6 +1,6 @@
 -- The first half of liveness, from a paused world to the lists that are left: what a DCHECK keeps of session, table and lists holds along all of them, whatever
 -- their lists and budgets. Where the check is complete every page lies below its place, and a new epoch is later than every page's own.
-use mathlib.Core.Path.{_≡_, refl}
+use mathlib.Core.Path.{_≡_, refl, ap}
 use mathlib.Core.Logic.{inl, inr, ⊎-elim}
 use mathlib.Core.Bool.{true, false}
 use mathlib.Core.List.{List, [], _∷_, _++_, append-nil, append-assoc, List·Memᴰ, List·Memᴰ·head, List·Memᴰ·tail, List·Memᴰ·not-nil}
@@ -13,7 +13,7 @@ use borrow.Author.Tests.{lt-leb}
 use Rattle.words.specs.Codes as codes
 use Rattle.refusals.proofs.Laws.{either}
 use Rattle.table.specs.Table.{pageCount, pageAt}
-use Rattle.session.specs.Session.{streamPlaces, unchecked, withEpoch, withCheck}
+use Rattle.session.specs.Session.{among, moving, streamPlaces, unchecked, withEpoch, withCheck}
 use Rattle.session.specs.Formed.{formed, busy, mostEntries, lastEpoch}
 use Rattle.session.specs.Outcome.{outcome}
 use Rattle.session.specs.declared.Phase.the-variants.{Blackout}
@@ -27,7 +27,8 @@ use Rattle.calls.specs.declared.Call.the-variants.{OnSession}
 use Rattle.history.specs.History.{given, World, effectIn, after}
 use Rattle.history.specs.Earning.{Paused, reset, nextEpoch, Ask, Fair, Full, entriesOf, withList, Checked, asking, checked, complete, mostLists}
 use Rattle.history.specs.Earning.{joined, cutAnew}
-use Rattle.history.proofs.Pages.{momentOf}
+use Rattle.history.proofs.Pages.{momentOf, while-has}
+use Rattle.history.proofs.Sessions.{not-idle}
 use Rattle.history.proofs.Formed.{formed-after, streams-after}
 use Rattle.history.proofs.Sound.{Sound, sound-after, sound-ok}
 use Rattle.history.proofs.Waiting.{Left}
@@ -220,6 +221,7 @@ epoch-left w n c ls m streams done =
     let g = m .between in
     let made : Advances (w .session) (w .table) = epoch-makes (w .session) (w .table) (m .formed) (g .phase) (g .rest) (g .epoch) in
     let r = formed-means (w .session) (length (w .table)) (m .formed) in
+    let moves = not-idle moving (w .session .phase) refl (ap (among moving) (g .phase)) in
     record {
       formed = formed-after w (given (OnSession NewEpoch) [] []) (m .formed);
       phase = rw made (g .phase);
@@ -231,7 +233,7 @@ epoch-left w n c ls m streams done =
       pages =
           rw made
           (λ i k.
-          let young = sound-ok w (m .sound) i k .1 .young in
+          let young = while-has (w .session .phase) moves (sound-ok w (m .sound) i k .1 .abroad) .young in
           ⊎-elim (λ x. inl x) (λ x. inr (x .0, omega (arith, young), x .1)) (g .passed i (omega (arith, k, r .ours, r .complete done))));
     }
 

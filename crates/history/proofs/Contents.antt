@@ -12,7 +12,7 @@ use borrow.Author.Tests.{eqb-true, ltb-true, ltb-false}
 use Rattle.records.specs.Record.{recordOf, plain}
 use Rattle.refusals.proofs.Laws.{either, Passed, and-left, not-false}
 use Rattle.states.specs.States.{State, Free, stateOf, isIn, Change, hasMove, goesBy}
-use Rattle.states.specs.Lists.{writableStates, landingStates, adds, accepts, blocks, unblocks, removes, aborts, looks, renewedStates, exports}
+use Rattle.states.specs.Lists.{writableStates, landingStates, adds, accepts, blocks, unblocks, removes, looks, renewedStates, exports, restores}
 use Rattle.states.proofs.Laws.{every-if, Each, move-each, goes-each}
 use Rattle.page.specs.Page.{Page, pageOf, strange, onWords, unlessStrange}
 use Rattle.page.specs.Moves.{writable, moveTests, movedBy}
@@ -22,7 +22,7 @@ use Rattle.page.specs.declared.PageWords.{PageWords}
 use Rattle.page.specs.declared.moves.Move.{Move}
 use Rattle.page.specs.declared.moves.Move.the-variants.{Write, Add, Accept, Block, Unblock, Remove}
 use Rattle.page.specs.declared.sweeps.Sweep.{Sweep}
-use Rattle.page.specs.declared.sweeps.Sweep.the-variants.{Track, Start, Pause, Abort}
+use Rattle.page.specs.declared.sweeps.Sweep.the-variants.{Track, Start, Pause}
 use Rattle.page.proofs.MoveLaws.{swept-held}
 use Rattle.table.specs.Table.{pageCount, wordsAt, pageAt, sweepOf}
 use Rattle.table.proofs.Laws.{sweep-past, page-swept}
@@ -40,6 +40,9 @@ use Rattle.entry.proofs.Laws.{taken-either, exported-page}
 use Rattle.lists.specs.Run.{Standing, listRun}
 use Rattle.lists.proofs.Moves.{run-each}
 use Rattle.export.specs.Export.{exportStep}
+use Rattle.restoring.proofs.Laws.{restored-either, restored-page}
+use Rattle.restore.specs.Restore.{restoreOut}
+use Rattle.restore.proofs.Moves.{restore-each}
 use Rattle.bundle.specs.Bundle.{absent, holds}
 use Rattle.history.specs.History.{leaves}
 use Rattle.history.specs.Promises.{guestsStates, contentOf, content}
@@ -79,9 +82,9 @@ step-content Remove p clock d = moved (λ (x to : State). contentOf to 0 ≡ abs
 
 -- ---- what every page goes through
 
-abort-content : (z : State) → Keeps z (goesBy aborts z)
+restore-content : (z : State) → Keeps z (goesBy restores z)
 unfolding isIn
-abort-content z = goes-each Keeps aborts (λ m. refl, (λ m. refl, (λ m. refl, (λ m. refl, (λ m. refl, (λ m. refl, (λ m. refl, tt))))))) z (λ m. refl)
+restore-content z = goes-each Keeps restores (λ m. refl, (λ m. refl, (λ m. refl, (λ m. refl, (λ m. refl, (λ m. refl, (λ m. refl, tt))))))) z (λ m. refl)
 
 sweep-content : (k : Sweep) (p : Page) → content (unlessStrange (sweptBy k) p) ≡ content p
 unfolding unlessStrange
@@ -91,7 +94,6 @@ sweep-content k p = either (λ (q : Page). content q ≡ content p) (strange p) 
     swept Track = refl
     swept Start = refl
     swept Pause = refl
-    swept Abort = abort-content (p .state) (p .mark)
 
 look-content : (z : State) → Keeps z (goesBy looks z)
 unfolding isIn
@@ -157,6 +159,21 @@ pub export-run-content : (g : Ground) (last budget : ℕ) (x : Standing) → g .
 export-run-content g last budget x r i =
     run-each (λ (w : PageWords). content (pageOf w) ≡ content (pageAt (x .table) i)) (exportStep g)
     (λ word held w e. taken-content word w g r ∙ e) last budget x i refl
+
+-- and so does RESTORE
+pub restored-content : (s : Session) (t l : List ℕ) (info budget i : ℕ) →
+    content (pageAt (restoreOut s t l info budget .table) i) ≡ content (pageAt t i)
+unfolding unlessStrange
+restored-content s t l info budget i =
+    restore-each (λ (w : PageWords). content (pageOf w) ≡ content (pageAt t i)) s t l info budget
+    (λ g word held w e.
+    restored-either word held w g (λ (v : PageWords). content (pageOf v) ≡ content (pageAt t i))
+    (λ z.
+    ap content (restored-page w)
+    ∙ either (λ (q : Page). content q ≡ content (pageOf w)) (strange (pageOf w)) (λ y. refl) (λ y. restore-content (pageOf w .state) (pageOf w .mark))
+    ∙ e)
+    e)
+    i refl
 
 -- ---- a call on one page
 

@@ -13,7 +13,7 @@ use Rattle.page.specs.Page.{onWords}
 use Rattle.page.specs.Sweeps.{sweptBy}
 use Rattle.page.specs.declared.moves.Move.{Move}
 use Rattle.page.specs.declared.sweeps.Sweep.{Sweep}
-use Rattle.page.specs.declared.sweeps.Sweep.the-variants.{Track, Start, Pause, Abort}
+use Rattle.page.specs.declared.sweeps.Sweep.the-variants.{Track, Start, Pause}
 use Rattle.table.specs.Table.{pageCount, sweepOf}
 use Rattle.session.specs.Session.{among, guest, newSession}
 use Rattle.session.specs.Outcome.{Outcome, answered}
@@ -26,14 +26,16 @@ use Rattle.migration.proofs.Grant.{paused-is}
 use Rattle.migration.specs.Migration.{sweepNext, sweepCode, onAll, aloneNext, aloneCode, onSession}
 use Rattle.migration.specs.Token.{tokenTests, tokenCode, tokenOut}
 use Rattle.migration.specs.declared.Alone.{Alone}
-use Rattle.migration.proofs.Laws.{alone-leaves}
+use Rattle.migration.specs.declared.Alone.the-variants.{NewEpoch, Reset, Abort}
 use Rattle.scan.specs.Scan.{checkedBy, ScanOutcome, dscanOut, dcheckOut}
 use Rattle.scan.proofs.Outcomes.{answer-session, dscanned, dscan-either, dchecked, dcheck-either}
 use Rattle.export.specs.Export.{ExportOutcome, exportOut}
 use Rattle.export.proofs.Moves.{exported, export-either}
+use Rattle.restore.specs.Restore.{RestoreOutcome, restoreOut}
+use Rattle.restore.proofs.Moves.{restore-either}
 use Rattle.calls.specs.Calls.{Effect}
 use Rattle.calls.specs.declared.Call.{Call}
-use Rattle.calls.specs.declared.Call.the-variants.{New, OnPage, OnAll, OnSession, StartToken, Dscan, Dcheck, Export}
+use Rattle.calls.specs.declared.Call.the-variants.{New, OnPage, OnAll, OnSession, StartToken, Dscan, Dcheck, Export, Restore}
 use Rattle.bundle.specs.Bundle.{Holding, nothing}
 use Rattle.history.specs.History.{Given, given, World, effectIn, accepted, rememberedBy, takesCopy, copiedBy, after, run}
 use Rattle.history.proofs.Contents.{call-done}
@@ -91,7 +93,7 @@ unfolding tokenOut
 token-copied s t m c h =
     either (λ (s' : Session). Copied (s' .phase) m c) (eqb (tokenCode s t) 0) (λ q x. h (token-paused s t q)) (λ q. h)
 
--- scans and exports leave the phase
+-- scans, exports and RESTORE leave the phase
 dscan-phase : (s : Session) (t l : List ℕ) (first count budget : ℕ) → dscanOut s t l first count budget .answer .session .phase ≡ s .phase
 dscan-phase s t l first count budget =
     dscan-either s t l first count budget (λ (o : ScanOutcome). o .answer .session .phase ≡ s .phase)
@@ -112,6 +114,10 @@ export-phase s t l b stream resume info budget =
     (finished-streams (λ (x : Session). x .phase ≡ s .phase) s stream (infoOf info) (exported s t l b stream info budget .at) (λ streams. refl))
     refl
 
+restore-phase : (s : Session) (t l : List ℕ) (info budget : ℕ) → restoreOut s t l info budget .answer .session .phase ≡ s .phase
+restore-phase s t l info budget =
+    restore-either (λ (o : RestoreOutcome). o .answer .session .phase ≡ s .phase) s t l info budget (λ e. refl) (λ e. refl)
+
 module _ (w : World) (l b : List ℕ) (h : Copied (w .session .phase) (w .memory) (w .copy)) where
   abbrev s : Session
   s = w .session
@@ -126,10 +132,11 @@ module _ (w : World) (l b : List ℕ) (h : Copied (w .session .phase) (w .memory
   sweep-copied Track = h
   sweep-copied Start = λ x. absurd x
   sweep-copied Pause = λ x i. refl
-  sweep-copied Abort = λ x. absurd x
 
   alone-copied : (k : Alone) → Copied (aloneNext k s .phase) (w .memory) (w .copy)
-  alone-copied k = rw (alone-leaves k s .phase) h
+  alone-copied NewEpoch = h
+  alone-copied Reset = h
+  alone-copied Abort = λ x. absurd x
 
   call-copied : (c : Call) → Copied (after w (given c l b) .session .phase) (after w (given c l b) .memory) (after w (given c l b) .copy)
   unfolding newOut onAll onSession
@@ -150,6 +157,8 @@ module _ (w : World) (l b : List ℕ) (h : Copied (w .session .phase) (w .memory
       uncopied (left (Dcheck budget)) (w .memory) (w .copy) (rw (dcheck-phase s t l budget) h)
   call-copied (Export stream resume info budget) =
       uncopied (left (Export stream resume info budget)) (w .memory) (w .copy) (rw (export-phase s t l b stream resume info budget) h)
+  call-copied (Restore info budget) =
+      uncopied (left (Restore info budget)) (w .memory) (w .copy) (rw (restore-phase s t l info budget) h)
 
 pub run-copied : (l : List Given) (w : World) → Copied (w .session .phase) (w .memory) (w .copy) →
     Copied (run w l .session .phase) (run w l .memory) (run w l .copy)

@@ -23,7 +23,8 @@ use Rattle.entry.specs.declared.Ground.{Ground}
 use Rattle.entry.proofs.Laws.{Exportable, status-success, exported-has}
 use Rattle.bundle.specs.Bundle.{Holding, Operation, made, Fits}
 use Rattle.history.specs.History.{operationOf}
-use Rattle.history.proofs.Pages.{Moment, momentOn, There, Same, Seen, Still, Ok}
+use Rattle.history.proofs.Pages.{Moment, momentOn, There, Same, Seen, Still, Abroad, Ok, while-made, while-has}
+use Rattle.history.proofs.Sessions.{not-idle}
 
 -- an entry that succeeds: what it finds at the destination, and what it makes of it
 pub record Sends (k : Moment) (p q : Page) (o : Operation) (m : Holding) : Type 0 where
@@ -83,19 +84,20 @@ pub entry-sends : (g : Ground) (e : Entry) (p : Page) → among moving (g .phase
 unfolding statusOf
 entry-sends g e p v x =
     record {
-      fits = λ h o. m .fits h (o .there);
+      fits = λ h o. m .fits h (abroad o .there);
       ok = λ h o. record {
         known = m .known;
-        young = omega arith;
-        there = m .there;
-        same = m .same (λ n. calm n o);
+        abroad = while-made (g .phase) (record { young = omega arith; there = m .there; same = m .same (λ n. calm n o) });
         seen = o .seen;
         still = rw (m .blocked) (o .still);
       };
-      older = λ h o. let n : p .migrated ≡ g .epoch → ⊥ = eqb-false (p .migrated) (g .epoch) (t .new) in omega (arith, n, o .young);
+      older = λ h o. let n : p .migrated ≡ g .epoch → ⊥ = eqb-false (p .migrated) (g .epoch) (t .new) in omega (arith, n, abroad o .young);
       now = refl;
     }
   where
+    abroad : {h : Holding} → Ok (momentOn g) p h → Abroad (g .epoch) p h
+    abroad o = while-has (g .phase) (not-idle moving (g .phase) refl v) (o .abroad)
+
     t : Exportable p g
     t = status-success e p g x
 

@@ -25,6 +25,8 @@ use Rattle.migration.specs.Token.{tokenCode, inTheWay, tokenFor, tokenOut}
 use Rattle.scan.specs.Look.{listed, listedWord, renewed, lookOf}
 use Rattle.scan.specs.Scan.{stopCode, endCode, scanRun, rangeRun, writtenOf, answerOf, checkedBy, withinTable}
 use Rattle.scan.specs.Scan.{dscanCode, dscanOut, dcheckCode, dcheckOut}
+use Rattle.restoring.specs.Restoring.{faulty, restoreStatus, toldWord, restoredEntry, leftEntry, restoredOf}
+use Rattle.restore.specs.Restore.{restoreCode, endedAt, restoreOut}
 use Rattle.entry.specs.Entry.{groundOf, invalid, unexportable, statusOf, answerWord, sentEntry, failedEntry, takenOf}
 use Rattle.lists.specs.Run.{counted, stepped, listRun}
 use Rattle.lists.specs.List.{infoBack}
@@ -61,10 +63,14 @@ unfolding recordOf recordWord plain entryOf entryWord infoOf infoWord stateOf is
     writable keptStamp legal wordsAt putAt some workOf withWork busy formed gated answered newCode newOut onPage sweepCode onAll aloneCode onSession tokenCode
     inTheWay tokenFor tokenOut listed listedWord renewed lookOf stopCode endCode scanRun rangeRun writtenOf answerOf checkedBy withinTable dscanCode dscanOut
     dcheckCode dcheckOut invalid unexportable statusOf answerWord sentEntry failedEntry takenOf counted stepped exportCode groundOf macPages finishedBy exportOut
-    listRun infoBack
+    listRun infoBack faulty restoreStatus toldWord restoredEntry leftEntry restoredOf restoreCode endedAt restoreOut
 met =
     record {
       new = refl;
+      unready = refl;
+      interrupted = refl;
+      restored = refl;
+      ready = refl;
       token = refl;
       log = refl;
       order = record { same = List·Permᴰ·swap refl refl; rising = rising-means reordered refl };

@@ -41,9 +41,11 @@ use Rattle.entry.specs.Entry.{groundOf}
 use Rattle.export.specs.Export.{exportCode, exportStep, begunBy, finishedBy, ExportOutcome, exportOut}
 use Rattle.export.specs.declared.ExportAnswer.{ExportAnswer}
 use Rattle.export.proofs.Moves.{exported, export-either}
+use Rattle.restore.specs.Restore.{restoreStep, begunAt, RestoreOutcome}
+use Rattle.restore.proofs.Moves.{restore-either}
 use Rattle.calls.specs.Calls.{effectOf}
 use Rattle.calls.specs.declared.Call.{Call}
-use Rattle.calls.specs.declared.Call.the-variants.{New, OnPage, OnAll, OnSession, StartToken, Dscan, Dcheck, Export}
+use Rattle.calls.specs.declared.Call.the-variants.{New, OnPage, OnAll, OnSession, StartToken, Dscan, Dcheck, Export, Restore}
 use Rattle.history.specs.History.{Given, World, accepted, after, run, newEffect, newWorld, History, atEnd}
 use Rattle.history.specs.Promises.{StaysFormed}
 use Rattle.history.proofs.Accepted.{new-made, sweep-made, sweep-streams, alone-made, alone-streams, token-made, check-made, export-made}
@@ -113,6 +115,11 @@ module _ (s : Session) (t : List ℕ) (f : formed s (length t) ≡ true) where
       rw (run-promises .lengths (exportStep (groundOf s)) (x .last) budget (standing (begunBy (workOf s stream)) t l b) .0)
       (means-formed (finishedBy s stream x (ran .at) .session) (length t) (export-made s t l b stream resume info budget (eqb-true _ _ e))))
       (λ e. f)
+  call-formed l b (Restore info budget) =
+      let x = infoOf info in
+      restore-either (λ (o : RestoreOutcome). formed (o .answer .session) (length (o .table)) ≡ true) s t l info budget
+      (λ e. rw (run-promises .lengths (restoreStep (groundOf s)) (x .last) budget (standing (begunAt x) t l []) .0) f)
+      (λ e. f)
 
 pub formed-after : (w : World) (g : Given) → formed (w .session) (length (w .table)) ≡ true → formed (after w g .session) (length (after w g .table)) ≡ true
 formed-after w g f = call-formed (w .session) (w .table) f (g .list) (g .buffer) (g .call)
@@ -163,6 +170,8 @@ module _ (s : Session) (t : List ℕ) (n : length (s .streams) ≡ streamPlaces)
       export-either (λ (o : ExportOutcome). length (o .answer .session .streams) ≡ streamPlaces) s t l b stream resume info budget
       (export-streams stream (infoOf info) (exported s t l b stream info budget .at))
       n
+  call-streams l b (Restore info budget) =
+      restore-either (λ (o : RestoreOutcome). length (o .answer .session .streams) ≡ streamPlaces) s t l info budget (λ e. n) (λ e. n)
 
 -- a session has its eight streams
 pub streams-after : (w : World) (g : Given) → length (w .session .streams) ≡ streamPlaces → length (after w g .session .streams) ≡ streamPlaces

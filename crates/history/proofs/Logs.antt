@@ -1,7 +1,7 @@
 -- A log with the table, and one entry more: a success's word gives its fields back, and its page, with the destination, makes the step of `entry-sends`; a
 -- failure's word is none, and its page stays.
 use mathlib.Core.Path.{_≡_, refl, sym, ap, _∙_}
-use mathlib.Core.Logic.{⊎-elim}
+use mathlib.Core.Logic.{inl, ⊎-elim}
 use mathlib.Core.Bool.{Bool, true, false, cond}
 use mathlib.Core.List.{List, [], _∷_, _++_, append-nil, List·Memᴰ, List·Memᴰ·not-nil, List·Memᴰ·append-cases, List·Memᴰ·eq-of-singleton}
 use Prim.Native.Nat.{ℕ, _/_, _^_, _≤_, _<_}
@@ -27,9 +27,10 @@ use Rattle.lists.proofs.Moves.{step-other, step-length}
 use Rattle.export.specs.Export.{exportStep}
 use Rattle.export.proofs.Moves.{step-page, step-failed}
 use Rattle.bundle.specs.Bundle.{Sent, madeBy, Rising, Once}
-use Rattle.bundle.proofs.Replay.{rising-more, once-more, Lawful, lawful-more}
+use Rattle.bundle.proofs.Replay.{Past, rising-more, once-more, Lawful, lawful-more}
 use Rattle.history.specs.History.{sentBy}
-use Rattle.history.proofs.Pages.{Moment, momentOn, stay}
+use Rattle.history.proofs.Pages.{Moment, momentOn, stay, while-has}
+use Rattle.history.proofs.Sessions.{not-idle}
 use Rattle.history.proofs.Entries.{sentAs, entry-sends, Sends}
 use Rattle.history.proofs.Rows.{Steps, Row, Rows, rows-steps, rows-sent}
 
@@ -141,8 +142,8 @@ module _ (g : Ground) (s : Standing) where
     sent-more e = (
       record {
         rising = rising-more log sends (o .rising) (f .past);
-        once = once-more log sends (o .once) (λ y m a. omega (arith, old .past .below y m a, older));
-        lawful = lawful-more log sends _ (old .has) (old .past) older (n .fits (old .has) (old .ok)) (f .past) (o .lawful);
+        once = once-more log sends (o .once) (λ y m a. omega (arith, past .below y m a, older));
+        lawful = lawful-more log sends _ (old .has) past older (n .fits (old .has) (old .ok)) (f .past) (o .lawful);
       },
       record {
         rows = rows-sent (momentOn g) log sends (s .table) (stepped (exportStep g) s .table) _ (step-length (exportStep g) s) l refl
@@ -162,6 +163,9 @@ module _ (g : Ground) (s : Standing) where
         old : Row (momentOn g) log (gpaOf s) page
         old = f .rows (gpaOf s) l
 
+        past : Past (gpaOf s) log (page .migrated) (old .has)
+        past = while-has (g .phase) (not-idle moving (g .phase) refl moves) (old .past)
+
         older : page .migrated < g .epoch
         older = n .older (old .has) (old .ok)
 
@@ -174,5 +178,5 @@ module _ (g : Ground) (s : Standing) where
         go false q = rw (left-adds q, append-nil) (
           o,
           fine-steps (omega arith)
-              (record { size = step-length (exportStep g) s; at = λ i h. rw (left-words q i) (stay (momentOn g) (pageAt (s .table) i)) }) f,
+              (record { size = step-length (exportStep g) s; lasts = inl refl; at = λ i h. rw (left-words q i) (stay (momentOn g) (pageAt (s .table) i)) }) f,
         )

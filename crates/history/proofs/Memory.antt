@@ -34,12 +34,12 @@ use Rattle.entry.specs.Entry.{groundOf}
 use Rattle.export.specs.Export.{exportTests, exportCode, begunBy, ExportOutcome, exportOut}
 use Rattle.calls.specs.Calls.{Effect}
 use Rattle.calls.specs.declared.Call.{Call}
-use Rattle.calls.specs.declared.Call.the-variants.{New, OnPage, OnAll, OnSession, StartToken, Dscan, Dcheck, Export}
+use Rattle.calls.specs.declared.Call.the-variants.{New, OnPage, OnAll, OnSession, StartToken, Dscan, Dcheck, Export, Restore}
 use Rattle.bundle.specs.Bundle.{Holding, nothing}
 use Rattle.history.specs.History.{Given, given, World, effectIn, accepted, holding, leaves, after, run, newWorld, History, atEnd}
 use Rattle.history.specs.Earning.{granted}
 use Rattle.history.specs.Promises.{content, Remembers}
-use Rattle.history.proofs.Contents.{call-done, step-content, new-content, swept-content, range-content, export-run-content}
+use Rattle.history.proofs.Contents.{call-done, step-content, new-content, swept-content, range-content, export-run-content, restored-content}
 use Rattle.history.proofs.Copied.{token-paused, run-copied}
 
 -- ---- the table
@@ -144,6 +144,8 @@ module _ (w : World) (l b : List ℕ) (h : Holds (w .table) (w .memory)) where
   call-holds (Dcheck budget) = unnoted (left (Dcheck budget)) (w .memory) (dcheck-holds s t l budget (w .memory) h)
   call-holds (Export stream resume info budget) =
       unnoted (left (Export stream resume info budget)) (w .memory) (export-holds s t l b stream resume info budget (w .memory) h)
+  call-holds (Restore info budget) =
+      unnoted (left (Restore info budget)) (w .memory) (λ i. restored-content s t l info budget i ∙ h i)
 
 run-holds : (l : List Given) (w : World) → Holds (w .table) (w .memory) → Holds (run w l .table) (run w l .memory)
 run-holds [] w h = h

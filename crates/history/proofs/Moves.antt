@@ -19,7 +19,7 @@ use Rattle.session.specs.declared.Phase.{Phase}
 use Rattle.session.specs.declared.Phase.the-variants.{Idle, Live, Blackout, Done}
 use Rattle.scan.specs.Look.{renewed, listedPage}
 use Rattle.bundle.specs.Bundle.{Holding}
-use Rattle.history.proofs.Pages.{Moment, There, isExported, isPendingExported, Same, Seen, Still, Ok, Step, stay, there-as, same-free, if-false, if-map}
+use Rattle.history.proofs.Pages.{Moment, There, isExported, isPendingExported, Same, Seen, Still, Ok, Step, stay, there-as, same-free, if-false, if-map, while-map}
 use Rattle.history.proofs.Pages.{seen-zero, seen-now}
 
 -- ---- changes of state
@@ -113,9 +113,11 @@ module _ (k : Moment) (g : among guest (k .phase) ≡ true) (p : Page) where
       record {
         ok = λ h o. record {
           known = a .known;
-          young = rw e (o .young);
-          there = a .there h (o .there);
-          same = a .same (q .dirty) (q .cached) (q .mark) h;
+          abroad = while-map (k .phase) (λ x. record {
+            young = rw e (x .young);
+            there = a .there h (x .there);
+            same = a .same (q .dirty) (q .cached) (q .mark) h;
+          }) (o .abroad);
           seen = s;
           still = still-guest (k .phase) g (q .cached) (blocked q);
         };
@@ -127,13 +129,15 @@ module _ (k : Moment) (g : among guest (k .phase) ≡ true) (p : Page) where
       record {
         ok = λ h o. record {
           known = o .known;
-          young = o .young;
-          there = o .there;
-          same = (
-            if-map (isExported (p .state)) (λ e f y. absurd
-                (wrote (p .dirty) (p .cached) (isIn (p .state) writableStates) (exported-writable (p .state) e) (λ x. f x .0) y)) (o .same .0),
-            if-false _ (isPendingExported (p .state)) (write-pending p w),
-          );
+          abroad = while-map (k .phase) (λ x. record {
+            young = x .young;
+            there = x .there;
+            same = (
+              if-map (isExported (p .state)) (λ e f y. absurd
+                  (wrote (p .dirty) (p .cached) (isIn (p .state) writableStates) (exported-writable (p .state) e) (λ c. f c .0) y)) (x .same .0),
+              if-false _ (isPendingExported (p .state)) (write-pending p w),
+            );
+          }) (o .abroad);
           seen = write-seen (k .clock) p w (o .seen);
           still = still-guest (k .phase) g true (blocked p);
         };
@@ -197,10 +201,12 @@ listed-step k p =
     record {
       ok = λ h o. record {
         known = l .known (o .known);
-        young = o .young;
-        there = l .there h (o .there);
-        same = same-free to (not-true _ (and-left (not (isExported to)) (not (isPendingExported to)) n))
-            (not-true _ (and-right (not (isExported to)) (not (isPendingExported to)) n)) false (p .cached) (p .mark) h;
+        abroad = while-map (k .phase) (λ x. record {
+          young = x .young;
+          there = l .there h (x .there);
+          same = same-free to (not-true _ (and-left (not (isExported to)) (not (isPendingExported to)) n))
+              (not-true _ (and-right (not (isExported to)) (not (isPendingExported to)) n)) false (p .cached) (p .mark) h;
+        }) (o .abroad);
         seen = seen-now (k .clock) false (p .cached);
         still = rw (l .blocked) (o .still);
       };

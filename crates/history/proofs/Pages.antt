@@ -1,6 +1,7 @@
--- One page: what always holds between calls of it and of what the destination has of it. Every move of a page keeps that (`Moves`, `Entries`, `Sweeps`), since
--- what a move asks of Dirty, Cached and stamp is what the destination's copy needs.
+-- One page: what always holds between calls of it and, while there is a migration, of what the destination has of it. Every move of a page keeps that
+-- (`Moves`, `Entries`, `Sweeps`), since what a move asks of Dirty, Cached and stamp is what the destination's copy needs.
 use mathlib.Core.Path.{_≡_, refl, sym, subst, _∙_}
+use mathlib.Core.Logic.{_⊎_, inl, inr}
 use mathlib.Core.Bool.{Bool, true, false, true≢false, false≢true}
 use mathlib.Core.List.{[], _∷_}
 use Prim.Native.Nat.{ℕ, _≤_, _<_}
@@ -83,13 +84,54 @@ Still Live c b = Unit
 Still Blackout c b = (c ≡ false) × (b ≡ false)
 Still Done c b = Unit
 
-pub record Ok (k : Moment) (p : Page) (h : Holding) : Type 0 where
-  pub known : strange p ≡ false
-  pub young : p .migrated ≤ k .epoch
+-- what a page and the destination have of each other in a migration epoch
+pub record Abroad (epoch : ℕ) (p : Page) (h : Holding) : Type 0 where
+  pub young : p .migrated ≤ epoch
   pub there : There (p .state) h
   pub same : Same (p .state) (p .dirty) (p .cached) (p .mark) h
+
+-- what is asked while there is a migration: in Idle nothing, since an abort leaves pages as they were
+abbrev pub While : Phase → Type 0 → Type 0
+While Idle A = Unit
+While Live A = A
+While Blackout A = A
+While Done A = A
+
+pub record Ok (k : Moment) (p : Page) (h : Holding) : Type 0 where
+  pub known : strange p ≡ false
+  pub abroad : While (k .phase) (Abroad (k .epoch) p h)
   pub seen : Seen (k .clock) (p .dirty) (p .cached) (p .stamp)
   pub still : Still (k .phase) (p .cached) (blocked p)
+
+pub while-made : {A : Type 0} (p : Phase) → A → While p A
+while-made Idle a = tt
+while-made Live a = a
+while-made Blackout a = a
+while-made Done a = a
+
+pub while-map : {A B : Type 0} (p : Phase) → (A → B) → While p A → While p B
+while-map Idle f a = tt
+while-map Live f a = f a
+while-map Blackout f a = f a
+while-map Done f a = f a
+
+pub while-has : {A : Type 0} (p : Phase) → (p ≡ Idle → ⊥) → While p A → A
+while-has Idle n a = absurd (n refl)
+while-has Live n a = a
+while-has Blackout n a = a
+while-has Done n a = a
+
+-- a phase after another, in which no more is asked: the same, or after one of a migration
+abbrev pub Lasts : Phase → Phase → Type 0
+Lasts p q = (q ≡ p) ⊎ (p ≡ Idle → ⊥)
+
+pub while-lasts : (A : Type 0) (p q : Phase) → Lasts p q → While p A → While q A
+while-lasts A p q (inl e) a = rw e a
+while-lasts A p q (inr n) a = while-made q (while-has p n a)
+
+-- in Idle, whatever the destination has
+pub ok-idle : (k : Moment) (p : Page) (h : Holding) → k .phase ≡ Idle → strange p ≡ false → Seen (k .clock) (p .dirty) (p .cached) (p .stamp) → Ok k p h
+ok-idle k p h e n s = record { known = n; abroad = rw e tt; seen = s; still = rw e tt }
 
 -- a page may become another, with the session, while the destination stays
 pub record Step (k k' : Moment) (p q : Page) : Type 0 where

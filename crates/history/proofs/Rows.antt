@@ -18,6 +18,7 @@ use Rattle.page.proofs.MoveLaws.{swept-held}
 use Rattle.table.specs.Table.{pageCount, wordsAt, pageAt, putAt, sweepOf}
 use Rattle.table.proofs.Laws.{put-length, sweep-length, page-swept}
 use Rattle.session.specs.Outcome.{Outcome}
+use Rattle.session.specs.declared.Phase.the-variants.{Idle}
 use Rattle.session.specs.declared.Session.{Session}
 use Rattle.memory.specs.Memory.{onPage}
 use Rattle.memory.proofs.Laws.{page-either, page-done, page-other}
@@ -28,15 +29,17 @@ use Rattle.scan.proofs.RangeLaws.{range-page, range-length}
 use Rattle.scan.proofs.Outcomes.{look-page}
 use Rattle.bundle.specs.Bundle.{Holding, absent, Sent, madeBy}
 use Rattle.bundle.proofs.Replay.{Past, past-none, past-other, past-more}
-use Rattle.history.proofs.Pages.{Moment, momentOf, Ok, Step, stay}
+use Rattle.history.proofs.Pages.{Moment, momentOf, While, Ok, Step, Lasts, stay, while-made, while-map, while-lasts, ok-idle}
 use Rattle.history.proofs.Moves.{move-step, listed-step}
 use Rattle.history.proofs.Contents.{call-done}
 use Rattle.history.proofs.Entries.{Sends}
+use Rattle.history.proofs.Sweeps.{Home}
 
 -- ---- steps of all pages
 
 pub record Steps (k k' : Moment) (t t' : List ℕ) : Type 0 where
   pub size : length t' ≡ length t
+  pub lasts : Lasts (k .phase) (k' .phase)
   pub at : (i : ℕ) → i < pageCount t → Step k k' (pageAt t i) (pageAt t' i)
 
 -- ---- a call on one page
@@ -49,7 +52,7 @@ page-length : (m : Move) (s : Session) (t : List ℕ) (at : ℕ) → length (onP
 page-length m s t at = page-either m s t at (λ (o : Outcome). length (o .table) ≡ length t) (λ d. put-length t at _) (λ q. refl)
 
 pub page-steps : (m : Move) (s : Session) (t : List ℕ) (at : ℕ) → Steps (momentOf s) (momentOf s) t (onPage m s t at .table)
-page-steps m s t at = record { size = page-length m s t at; at = λ i h. elim (ℕ-discrete i at) [ yes e ↦ same i e | no ne ↦ other i ne ] }
+page-steps m s t at = record { size = page-length m s t at; lasts = inl refl; at = λ i h. elim (ℕ-discrete i at) [ yes e ↦ same i e | no ne ↦ other i ne ] }
   where
     o : Outcome
     o = onPage m s t at
@@ -78,15 +81,15 @@ swept-length k t = sweep-length (onWords (sweptBy k)) t
 swept-page : (k : Sweep) (t : List ℕ) (i : ℕ) → i < pageCount t → pageAt (swept k t) i ≡ unlessStrange (sweptBy k) (pageAt t i)
 swept-page k t i h = page-swept (sweptBy k) (swept-held k) t i h
 
-pub sweep-steps : (x : Sweep) (k k' : Moment) (t : List ℕ) → ((i : ℕ) → i < pageCount t → Step k k' (pageAt t i) (unlessStrange (sweptBy x) (pageAt t i))) →
+pub sweep-steps : (x : Sweep) (k k' : Moment) (t : List ℕ) → Lasts (k .phase) (k' .phase) → ((i : ℕ) → i < pageCount t → Step k k' (pageAt t i) (unlessStrange (sweptBy x) (pageAt t i))) →
     Steps k k' t (swept x t)
-sweep-steps x k k' t s = record { size = swept-length x t; at = λ i h. rw (swept-page x t i h) (s i h) }
+sweep-steps x k k' t v s = record { size = swept-length x t; lasts = v; at = λ i h. rw (swept-page x t i h) (s i h) }
 
 pub scan-steps : (k : Moment) (count : ℕ) (scan : Scan) (t l : List ℕ) → scan .clock ≡ k .clock → k .clock .tlb < 2 ^ 16 →
     2 * scan .first + 2 * count ≤ length t → Steps k k t (rangeRun count scan t l .part)
 unfolding lookOf
 scan-steps k count scan t l e small fits =
-    record { size = range-length count scan t l; at = λ i h. look i (range-page count scan t l fits i) }
+    record { size = range-length count scan t l; lasts = inl refl; at = λ i h. look i (range-page count scan t l fits i) }
   where
     look : (i : ℕ) → LookedAt i (scan .clock) (wordsAt t i) (wordsAt (rangeRun count scan t l .part) i) →
         Step k k (pageAt t i) (pageAt (rangeRun count scan t l .part) i)
@@ -99,15 +102,19 @@ scan-steps k count scan t l e small fits =
 pub record Row (k : Moment) (log : List Sent) (i : ℕ) (p : Page) : Type 0 where
   pub has : Holding
   pub ok : Ok k p has
-  pub past : Past i log (p .migrated) has
+  pub past : While (k .phase) (Past i log (p .migrated) has)
 
 abbrev pub Rows : Moment → List Sent → List ℕ → Type 0
 Rows k log t = (i : ℕ) → i < pageCount t → Row k log i (pageAt t i)
 
 pub rows-steps : {k k' : Moment} (log : List Sent) {t t' : List ℕ} → Steps k k' t t' → Rows k log t → Rows k' log t'
-rows-steps log {t} {t'} s r i h =
+rows-steps {k} {k'} log {t} {t'} s r i h =
     let h' : i < pageCount t = rw (s .size) at h in
-    record { has = r i h' .has; ok = s .at i h' .ok (r i h' .has) (r i h' .ok); past = rw (s .at i h' .kept) (r i h' .past) }
+    record {
+      has = r i h' .has;
+      ok = s .at i h' .ok (r i h' .has) (r i h' .ok);
+      past = while-lasts _ (k .phase) (k' .phase) (s .lasts) (rw (s .at i h' .kept) (r i h' .past));
+    }
 
 -- every page anew, with nothing at the destination
 pub rows-anew : (x : Sweep) (k k' : Moment) (log : List Sent) (t : List ℕ) →
@@ -116,7 +123,11 @@ pub rows-anew : (x : Sweep) (k k' : Moment) (log : List Sent) (t : List ℕ) →
 rows-anew x k k' log t o r i h =
     let h' : i < pageCount t = rw (swept-length x t) at h in
     let y = o i h' (r i h' .has) (r i h' .ok) in
-    rw (swept-page x t i h') (record { has = absent; ok = y .0; past = rw (y .1) (past-none i) })
+    rw (swept-page x t i h') (record { has = absent; ok = y .0; past = while-made (k' .phase) (rw (y .1) (past-none i)) })
+
+-- in Idle, where nothing is asked of the destination
+pub rows-idle : (k : Moment) (t : List ℕ) → k .phase ≡ Idle → ((i : ℕ) → i < pageCount t → Home (k .clock) (pageAt t i)) → Rows k [] t
+rows-idle k t e o i h = let y = o i h in record { has = absent; ok = ok-idle k (pageAt t i) absent e (y .known) (y .seen); past = rw e tt }
 
 -- one entry more
 pub rows-sent : (k : Moment) (log : List Sent) (z : Sent) (t t' : List ℕ) (q : Page) → length t' ≡ length t → z .page < pageCount t → z .epoch ≡ k .epoch →
@@ -134,10 +145,12 @@ rows-sent k log z t t' q size l b here beside n r i h = elim (ℕ-discrete i (z 
         (record {
           has = madeBy z;
           ok = n .ok (old .has) (old .ok);
-          past = rw (n .now ∙ sym b) (past-more (z .page) log _ _ (old .past) z refl (omega (arith, b, n .older (old .has) (old .ok))));
+          past = while-map (k .phase)
+              (λ x. rw (n .now ∙ sym b) (past-more (z .page) log (pageAt t (z .page) .migrated) (old .has) x z refl
+              (omega (arith, b, n .older (old .has) (old .ok))))) (old .past);
         })
 
     other : (i ≡ z .page → ⊥) → Row k (log ++ (z ∷ [])) i (pageAt t' i)
     other e =
         rw (beside i e)
-        (record { has = r i h' .has; ok = r i h' .ok; past = past-other i log _ _ (r i h' .past) z (λ y. e (sym y)) })
+        (record { has = r i h' .has; ok = r i h' .ok; past = while-map (k .phase) (λ x. past-other i log (pageAt t i .migrated) (r i h' .has) x z (λ y. e (sym y))) (r i h' .past) })

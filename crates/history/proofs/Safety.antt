@@ -1,7 +1,7 @@
 -- At a grant every page is ready, so what the log says of it is what the table holds; and no entry names a page beyond the table.
-use mathlib.Core.Path.{_≡_, sym, ap, _∙_}
+use mathlib.Core.Path.{_≡_, refl, sym, ap, _∙_}
 use mathlib.Core.Bool.{true}
-use mathlib.Core.List.{List, Permᴰ·refl}
+use mathlib.Core.List.{List, [], _∷_, Permᴰ·refl}
 use Prim.Native.Nat.{ℕ, _≤_, _<_}
 use native.Mathlib.Omega.{arith}
 use native.Mathlib.Decide.{decLt}
@@ -10,7 +10,9 @@ use Rattle.records.specs.Record.{recordOf, plain}
 use Rattle.states.specs.States.{stateOf, isIn}
 use Rattle.page.specs.Page.{pageOf}
 use Rattle.table.specs.Table.{pageCount, wordsAt, pageAt}
+use Rattle.session.specs.Session.{among}
 use Rattle.session.specs.declared.Phase.{Phase}
+use Rattle.session.specs.declared.Phase.the-variants.{Blackout}
 use Rattle.migration.specs.Grant.{Grantable}
 use Rattle.migration.proofs.Grant.{granted-exactly}
 use Rattle.bundle.specs.Bundle.{absent, Sent, nothing, replay, Order}
@@ -18,7 +20,8 @@ use Rattle.bundle.proofs.Replay.{none-past, replay-past, perm-reordered, at-tur
 use Rattle.history.specs.History.{World, History, atEnd}
 use Rattle.history.specs.Earning.{granted}
 use Rattle.history.specs.Promises.{content, Safe, EntriesFit}
-use Rattle.history.proofs.Pages.{momentOf}
+use Rattle.history.proofs.Pages.{momentOf, while-has}
+use Rattle.history.proofs.Sessions.{not-idle}
 use Rattle.history.proofs.Sweeps.{ready-content}
 use Rattle.history.proofs.Logs.{Fine}
 use Rattle.history.proofs.Stands.{since}
@@ -57,8 +60,9 @@ safe-table h x l o i = go (decLt i (pageCount (w .table)))
     go : Dec (i < pageCount (w .table)) → replay nothing l i ≡ content (pageAt (w .table) i)
     go (yes b) =
         let row = granted-fine w x (sound-end h) .rows i b in
-        replay-past i _ (row .has) (w .log) l (row .past) (perm-reordered (o .same) (o .rising))
-        ∙ ready-content (momentOf (w .session)) (pageAt (w .table) i) (row .has) (granted-means w x .ready i b) (row .ok)
+        let moves = not-idle (Blackout ∷ []) (w .session .phase) refl (ap (among (Blackout ∷ [])) (granted-means w x .paused)) in
+        replay-past i _ (row .has) (w .log) l (while-has (w .session .phase) moves (row .past)) (perm-reordered (o .same) (o .rising))
+        ∙ ready-content (momentOf (w .session)) (pageAt (w .table) i) (row .has) moves (granted-means w x .ready i b) (row .ok)
     go (no b) =
         let far : pageCount (w .table) ≤ i = omega (arith, b) in
         safe-beyond h x l o i far ∙ sym (beyond-absent (w .table) i far)

@@ -17,12 +17,12 @@ use Rattle.memory.specs.Memory.{newCode, newOut}
 use Rattle.migration.proofs.Laws.{all-either}
 use Rattle.calls.specs.Calls.{effect}
 use Rattle.calls.specs.declared.Call.{Call}
-use Rattle.calls.specs.declared.Call.the-variants.{New, OnPage, OnAll, OnSession, StartToken, Dscan, Dcheck, Export}
+use Rattle.calls.specs.declared.Call.the-variants.{New, OnPage, OnAll, OnSession, StartToken, Dscan, Dcheck, Export, Restore}
 use Rattle.bundle.specs.Bundle.{Holding}
 use Rattle.history.specs.History.{Given, given, World, beginsLog, leftBy, after, run, newWorld, History, atEnd}
 use Rattle.history.proofs.Pages.{Ok, momentOf}
 use Rattle.history.proofs.Logs.{Orderly, orderly-none}
-use Rattle.history.proofs.Stands.{Stands, anew-stands, new-stands, page-stands, sweep-stands, alone-stands, token-stands, dscan-stands, dcheck-stands}
+use Rattle.history.proofs.Stands.{Stands, anew-stands, new-stands, page-stands, sweep-stands, alone-stands, token-stands, dscan-stands, dcheck-stands, restore-stands}
 use Rattle.history.proofs.Exports.{export-logged}
 
 pub record Sound (w : World) : Type 0 where
@@ -49,6 +49,7 @@ module _ (w : World) (l b : List ℕ) (f : Sound w) where
   call-sound (Export stream resume info budget) =
       let x = export-logged w l b stream resume info budget (f .orderly) (f .fine) in
       record { orderly = x .0; fine = x .1 }
+  call-sound (Restore info budget) = record { orderly = f .orderly; fine = restore-stands (w .session) (w .table) (w .log) (f .fine) l info budget }
 
 pub sound-after : (w : World) (g : Given) → Sound w → Sound (after w g)
 sound-after w g f = call-sound w (g .list) (g .buffer) f (g .call)

@@ -1,5 +1,7 @@
--- The calls that make no entry: each steps every page, or makes every page anew with nothing at the destination.
-use mathlib.Core.Path.{_≡_, refl}
+-- The calls that make no entry: each steps every page, or makes every page anew with nothing at the destination, or leaves a session in Idle, where nothing is
+-- asked of the destination.
+use mathlib.Core.Path.{_≡_, refl, ap}
+use mathlib.Core.Logic.{inl, inr}
 use mathlib.Core.Bool.{cond}
 use mathlib.Core.List.{List, [], _∷_}
 use Prim.Native.Nat.{ℕ, _+_, _-_, _*_, _^_, _≤_, _<_}
@@ -9,38 +11,48 @@ use lib.ListN.{length, replicate}
 use borrow.Author.Tests.{eqb-true}
 use Rattle.refusals.proofs.Laws.{either}
 use Rattle.states.specs.States.{isStrange, isIn}
-use Rattle.page.specs.Page.{blocked, unstartable}
+use Rattle.words.specs.Info.{infoOf}
+use Rattle.words.specs.declared.infos.Info.{Info}
+use Rattle.page.specs.Page.{pageOf, blocked, unstartable}
+use Rattle.page.specs.declared.PageWords.{PageWords}
 use Rattle.page.specs.declared.moves.Move.{Move}
 use Rattle.page.specs.declared.sweeps.Sweep.{Sweep}
-use Rattle.page.specs.declared.sweeps.Sweep.the-variants.{Track, Start, Pause, Abort}
+use Rattle.page.specs.declared.sweeps.Sweep.the-variants.{Track, Start, Pause}
 use Rattle.table.specs.Table.{pageCount, pageAt}
 use Rattle.table.proofs.Laws.{some-none}
-use Rattle.session.specs.Session.{begun, withPhase, newSession}
+use Rattle.session.specs.Session.{begun, withPhase, withEpoch, newSession}
 use Rattle.session.specs.Outcome.{Outcome}
 use Rattle.session.specs.declared.Phase.{Phase}
 use Rattle.session.specs.declared.Phase.the-variants.{Idle, Live, Blackout, Done}
 use Rattle.session.specs.declared.Session.{Session}
 use Rattle.session.proofs.Laws.{answered-either, gate-open}
-use Rattle.session.proofs.FormedLaws.{tlb-fits}
+use Rattle.session.proofs.FormedLaws.{idle-is, tlb-fits}
 use Rattle.memory.specs.Memory.{newCode, newOut, onPage}
 use Rattle.memory.proofs.Laws.{page-either}
 use Rattle.migration.specs.Migration.{sweepNext, aloneNext, onSession}
 use Rattle.migration.specs.Token.{tokenTests, tokenCode, tokenOut}
 use Rattle.migration.specs.declared.Alone.{Alone}
-use Rattle.migration.proofs.Laws.{SweepOpen, alone-either, alone-leaves}
+use Rattle.migration.specs.declared.Alone.the-variants.{NewEpoch, Reset, Abort}
+use Rattle.migration.proofs.Laws.{SweepOpen, alone-either}
 use Rattle.scan.specs.Scan.{rangeRun, checkedBy, ScanOutcome, dscanTests, dscanCode, dscanOf, dscanOut, dcheckTests, dcheckCode, dcheckOf, dcheckOut}
 use Rattle.scan.specs.declared.Scan.{Scan}
 use Rattle.scan.proofs.Laws.{dscan-fits, dcheck-fits}
 use Rattle.scan.proofs.Outcomes.{answer-session, dscanned, dscan-either, dchecked, dcheck-either}
+use Rattle.lists.specs.Run.{standing}
+use Rattle.lists.proofs.Moves.{run-each}
+use Rattle.lists.proofs.Promises.{run-promises}
+use Rattle.entry.specs.Entry.{groundOf}
+use Rattle.restoring.proofs.Laws.{restored-either, restored-page}
+use Rattle.restore.specs.Restore.{restoreAsks, restoreCode, restoreStep, begunAt, RestoreOutcome, restoreRun, restoreOut}
+use Rattle.restore.proofs.Moves.{restore-either}
 use Rattle.bundle.specs.Bundle.{absent, Sent}
-use Rattle.bundle.proofs.Replay.{past-none}
 use Rattle.history.specs.History.{beginsLog}
 use Rattle.history.proofs.Pages.{momentOf}
 use Rattle.history.proofs.Moves.{still-guest}
 use Rattle.history.proofs.Contents.{zero-page}
-use Rattle.history.proofs.Sweeps.{uncached-step, session-step, started-ok, aborted-ok}
+use Rattle.history.proofs.Sweeps.{uncached-step, session-step, started-ok, Home, ok-home, restored-home}
 use Rattle.history.proofs.Sessions.{not-idle}
-use Rattle.history.proofs.Rows.{page-steps, swept, sweep-steps, scan-steps, rows-anew}
+use Rattle.history.proofs.Rows.{page-steps, swept, sweep-steps, scan-steps, rows-anew, rows-idle}
 use Rattle.history.proofs.Logs.{Fine, fine-steps, fine-none}
 
 -- the entries since the last start: none in Idle
@@ -53,6 +65,9 @@ since Done log = log
 -- what a session, a table and a log say together
 abbrev pub Stands : Session → List ℕ → List Sent → Type 0
 Stands s t log = Fine (momentOf s) (since (s .phase) log) t
+
+since-idle : (p : Phase) (log : List Sent) → p ≡ Idle → since p log ≡ []
+since-idle p log e = ap (λ (q : Phase). since q log) e
 
 pub since-begun : (p : Phase) (log : List Sent) → (p ≡ Idle → ⊥) → since p log ≡ log
 since-begun Idle log n = absurd (n refl)
@@ -68,8 +83,8 @@ anew-stands pages created n log =
     fine-none
     (λ i h. rw (zero-page n i) (record {
       has = absent;
-      ok = record { known = refl; young = omega arith; there = refl; same = (tt, tt); seen = λ a x. refl; still = tt };
-      past = past-none i;
+      ok = record { known = refl; abroad = tt; seen = λ a x. refl; still = tt };
+      past = tt;
     }))
 
 -- ---- what comes back of the session
@@ -101,7 +116,7 @@ module _ (s : Session) (t : List ℕ) (log : List Sent) (f : Stands s t log) whe
   -- what a call on every page makes: a start begins a new log
   pub sweep-stands : (k : Sweep) → SweepOpen k s t → Stands (sweepNext k s) (swept k t) (cond (beginsLog k) [] log)
   sweep-stands Track o =
-      fine-steps (omega arith) (sweep-steps Track _ _ t (λ i h. uncached-step _ _ (pageAt t i) (omega arith) (λ u. still-guest (s .phase) (o .comes) _ _))) f
+      fine-steps (omega arith) (sweep-steps Track _ _ t (inl refl) (λ i h. uncached-step _ _ (pageAt t i) (omega arith) (inl refl) (λ u. still-guest (s .phase) (o .comes) _ _))) f
   sweep-stands Start o =
       fine-none
       (rows-anew Start (momentOf s) (momentOf (begun s Live 1)) (since (s .phase) log) t
@@ -109,18 +124,31 @@ module _ (s : Session) (t : List ℕ) (log : List Sent) (f : Stands s t log) whe
       (f .rows))
   sweep-stands Pause o =
       fine-steps (omega arith)
-      (sweep-steps Pause _ _ t (λ i h. uncached-step _ _ (pageAt t i) (omega arith) (λ u. (refl, some-none blocked t (o .passed .0) i h))))
-      (rw (since-begun (s .phase) log (not-idle (Live ∷ []) (s .phase) refl (o .comes))) at f)
-  sweep-stands Abort o =
-      fine-none
-      (rows-anew Abort (momentOf s) (momentOf (begun s Idle 0)) (since (s .phase) log) t
-      (λ i h v k. aborted-ok (momentOf s) (momentOf (begun s Idle 0)) (pageAt t i) refl refl v k)
-      (f .rows))
+      (sweep-steps Pause _ _ t (inr live) (λ i h. uncached-step _ _ (pageAt t i) (omega arith) (inr live) (λ u. (refl, some-none blocked t (o .passed .0) i h))))
+      (rw (since-begun (s .phase) log live) at f)
+    where
+      live : s .phase ≡ Idle → ⊥
+      live = not-idle (Live ∷ []) (s .phase) refl (o .comes)
+
+  -- in Idle pages are asked for less than they are known to be
+  homes : (i : ℕ) → i < pageCount t → Home (s .clock) (pageAt t i)
+  homes i h = let row = f .rows i h in ok-home (momentOf s) (pageAt t i) (row .has) (row .ok)
+
+  -- of what a page depends on, the migration epoch alone is another
+  epoch-stands : (n : ℕ) → s .epoch ≤ n → Stands (withEpoch s n) t log
+  epoch-stands n e =
+      fine-steps e
+      (record {
+        size = refl;
+        lasts = inl refl;
+        at = λ i h. session-step (momentOf s) (momentOf (withEpoch s n)) (pageAt t i) e (inl refl) refl (λ u. u);
+      })
+      f
 
   next-stands : (k : Alone) → Stands (aloneNext k s) t log
-  next-stands k =
-      let e = alone-leaves k s in
-      rw (e .phase) (fine-steps (e .epoch) (record { size = refl; at = λ i h. session-step (momentOf s) _ (pageAt t i) (e .epoch) (e .clock) (λ u. u) }) f)
+  next-stands NewEpoch = epoch-stands (s .epoch + 1) (omega arith)
+  next-stands Reset = epoch-stands (s .epoch) (omega arith)
+  next-stands Abort = fine-none (rows-idle (momentOf (begun s Idle 0)) t refl homes)
 
   pub alone-stands : (k : Alone) → Leaves log (onSession k s t)
   alone-stands k = alone-either (Leaves log) k s t (λ o. next-stands k) (λ e. f)
@@ -131,9 +159,14 @@ module _ (s : Session) (t : List ℕ) (log : List Sent) (f : Stands s t log) whe
       either (λ (s' : Session). Stands s' t log) (eqb (tokenCode s t) 0)
       (λ e.
       let o = gate-open s (length t) (Blackout ∷ []) (tokenTests s t) refl (eqb-true _ _ e) in
+      let paused = not-idle (Blackout ∷ []) (s .phase) refl (o .comes) in
       fine-steps (omega arith)
-      (record { size = refl; at = λ i h. session-step (momentOf s) (momentOf (withPhase s Done)) (pageAt t i) (omega arith) refl (λ u. tt) })
-      (rw (since-begun (s .phase) log (not-idle (Blackout ∷ []) (s .phase) refl (o .comes))) at f))
+      (record {
+        size = refl;
+        lasts = inr paused;
+        at = λ i h. session-step (momentOf s) (momentOf (withPhase s Done)) (pageAt t i) (omega arith) (inr paused) refl (λ u. tt);
+      })
+      (rw (since-begun (s .phase) log paused) at f))
       (λ e. f)
 
   -- ---- the scans
@@ -163,3 +196,27 @@ module _ (s : Session) (t : List ℕ) (log : List Sent) (f : Stands s t log) whe
       (scan-stands (s .fixed .pages - s .check .place) (dcheckOf s budget) l refl (tlb-fits s (length t) (o .formed))
       (dcheck-fits s (length t) (length l) z .1 .0)))
       f
+
+  -- ---- RESTORE
+
+  restore-home : (l : List ℕ) (x : Info) (budget i : ℕ) → i < pageCount t → Home (s .clock) (pageAt (restoreRun s t l x budget .table) i)
+  restore-home l x budget i h =
+      run-each (λ (w : PageWords). Home (s .clock) (pageOf w)) (restoreStep (groundOf s))
+      (λ word held w o.
+      restored-either word held w (groundOf s) (λ (v : PageWords). Home (s .clock) (pageOf v))
+      (λ e. rw (restored-page w) (restored-home (s .clock) (pageOf w) o)) o)
+      (x .last) budget (standing (begunAt x) t l []) i (homes i h)
+
+  -- it comes in Idle, and a page is as it was or restored
+  pub restore-stands : (l : List ℕ) (info budget : ℕ) →
+      Stands (restoreOut s t l info budget .answer .session) (restoreOut s t l info budget .table) log
+  unfolding restoreCode
+  restore-stands l info budget =
+      let x = infoOf info in
+      restore-either (λ (o : RestoreOutcome). Stands (o .answer .session) (o .table) log) s t l info budget
+      (λ z.
+      let idle : s .phase ≡ Idle = idle-is (s .phase) (gate-open s (length t) (Idle ∷ []) (restoreAsks (length l) x) refl z .comes) in
+      let size = run-promises .lengths (restoreStep (groundOf s)) (x .last) budget (standing (begunAt x) t l []) .0 in
+      rw (since-idle (s .phase) log idle)
+      (fine-none (rows-idle (momentOf s) (restoreRun s t l x budget .table) idle (λ i h. restore-home l x budget i (rw size at h)))))
+      (λ z. f)

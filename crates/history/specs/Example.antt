@@ -1,9 +1,10 @@
--- A guest of four pages, moved while it runs: whatever the promises ask for is met by it.
+-- A guest of four pages, moved while it runs, after a migration that was aborted: whatever the promises ask for is met by it.
 use mathlib.Core.Path.{_≡_}
 use mathlib.Core.Bool.{Bool, true, false}
 use mathlib.Core.List.{List, [], _∷_, _++_, map}
 use Prim.Native.Nat.{ℕ, _+_, _*_, _^_, _≤_}
 use lib.ListN.{length, replicate}
+use Rattle.words.specs.Codes as codes
 use Rattle.page.specs.declared.moves.Move.{Move}
 use Rattle.page.specs.declared.moves.Move.the-variants.{Write, Add, Accept, Block, Remove}
 use Rattle.page.specs.declared.sweeps.Sweep.{Sweep}
@@ -11,11 +12,11 @@ use Rattle.page.specs.declared.sweeps.Sweep.the-variants.{Track, Start, Pause}
 use Rattle.session.specs.Session.{newSession}
 use Rattle.session.specs.declared.Session.{Session}
 use Rattle.migration.specs.declared.Alone.{Alone}
-use Rattle.migration.specs.declared.Alone.the-variants.{NewEpoch, Reset}
+use Rattle.migration.specs.declared.Alone.the-variants.{NewEpoch, Reset, Abort}
 use Rattle.calls.specs.declared.Call.{Call}
-use Rattle.calls.specs.declared.Call.the-variants.{OnPage, OnAll, OnSession, StartToken, Dscan, Dcheck, Export}
+use Rattle.calls.specs.declared.Call.the-variants.{OnPage, OnAll, OnSession, StartToken, Dscan, Dcheck, Export, Restore}
 use Rattle.bundle.specs.Bundle.{Operation, migrate, cancel, remigrate, Sent, Order}
-use Rattle.history.specs.History.{Given, given, accepted, newEffect, History, atEnd}
+use Rattle.history.specs.History.{Given, given, effectIn, accepted, newEffect, History, atEnd}
 use Rattle.table.specs.Table.{pageCount}
 use Rattle.session.specs.Formed.{busy, mostEntries}
 use Rattle.history.specs.Earning.{granted, Paused, Ask, Fair, Full, All, check, complete, mostLists, prepared, cutAnew}
@@ -49,10 +50,9 @@ upTo last first = last * 2 ^ 55 + first * 8
 abbrev pub scanned : List ℕ
 scanned = 0x0010000000000000 ∷ 0x0010000000001000 ∷ 0x0010000000002004 ∷ []
 
--- two pages are the guest's and one is pending; the scan comes, and then page 0 is written, unseen; after a track the list is exported, in two calls; then
--- page 1 is written again and page 0 removed
-abbrev pub live : List Given
-live =
+-- two pages are the guest's and one is pending; they are exported, and then the migration is aborted and page 0 written
+abbrev pub toAbort : List Given
+toAbort =
     on 0 Add
     ∷ on 0 Accept
     ∷ on 0 (Write 7)
@@ -61,6 +61,31 @@ live =
     ∷ on 1 (Write 8)
     ∷ on 2 Add
     ∷ onEvery Start
+    ∷ given (Dscan 0 4 10) (replicate 4 0) []
+    ∷ onEvery Track
+    ∷ given (Export 0 false (upTo 2 0) 5) scanned (replicate 3 0)
+    ∷ onNone Abort
+    ∷ on 0 (Write 6)
+    ∷ []
+
+-- a start now, and RESTORE of the list that was exported, in two calls
+abbrev pub again : Given
+again = onEvery Start
+
+abbrev pub restoring : Given
+restoring = given (Restore (upTo 2 0) 1) scanned []
+
+abbrev pub restoringOn : Given
+restoringOn = given (Restore (upTo 2 1) 5) scanned []
+
+-- the second start; the scan comes, and then page 0 is written, unseen; after a track the list is exported, in two calls; then page 1 is written again and
+-- page 0 removed
+abbrev pub live : List Given
+live =
+    toAbort
+    ++ restoring
+    ∷ restoringOn
+    ∷ again
     ∷ given (Dscan 0 4 10) (replicate 4 0) []
     ∷ on 0 (Write 9)
     ∷ onEvery Track
@@ -130,6 +155,10 @@ byTurns = alone 0x0010000000000018 0 false 0 ∷ alone 0x0010000000001008 1 fals
 
 pub record Met : Type 0 where
   pub new : accepted (newEffect before words 3) ≡ true
+  pub unready : effectIn (atEnd (moved new toAbort)) again .returned .code ≡ codes.eptEntryStateIncorrect
+  pub interrupted : effectIn (atEnd (moved new toAbort)) restoring .returned .code ≡ codes.interrupted
+  pub restored : accepted (effectIn (atEnd (moved new (toAbort ++ (restoring ∷ [])))) restoringOn) ≡ true
+  pub ready : accepted (effectIn (atEnd (moved new (toAbort ++ (restoring ∷ restoringOn ∷ [])))) again) ≡ true
   pub token : granted (atEnd (moved new toToken)) ≡ true
   pub log : atEnd (moved new toToken) .log ≡ sent
   pub order : Order (atEnd (moved new toToken) .log) reordered

@@ -16,11 +16,11 @@ use Rattle.words.specs.declared.entries.Entry.{Entry}
 use Rattle.page.specs.declared.moves.Move.{Move}
 use Rattle.page.specs.declared.moves.Move.the-variants.{Write, Add, Accept, Block, Unblock, Remove}
 use Rattle.page.specs.declared.sweeps.Sweep.{Sweep}
-use Rattle.page.specs.declared.sweeps.Sweep.the-variants.{Track, Start, Pause, Abort}
+use Rattle.page.specs.declared.sweeps.Sweep.the-variants.{Track, Start, Pause}
 use Rattle.session.specs.declared.Session.{Session}
 use Rattle.calls.specs.Calls.{Effect, effectOf}
 use Rattle.calls.specs.declared.Call.{Call}
-use Rattle.calls.specs.declared.Call.the-variants.{New, OnPage, OnAll, OnSession, StartToken, Dscan, Dcheck, Export}
+use Rattle.calls.specs.declared.Call.the-variants.{New, OnPage, OnAll, OnSession, StartToken, Dscan, Dcheck, Export, Restore}
 use Rattle.calls.specs.declared.Returned.{Returned}
 use Rattle.bundle.specs.Bundle.{Holding, absent, holds, Operation, migrate, cancel, remigrate, Sent, nothing}
 
@@ -94,7 +94,6 @@ abbrev pub beginsLog : Sweep → Bool
 beginsLog Track = false
 beginsLog Start = true
 beginsLog Pause = false
-beginsLog Abort = false
 
 -- and only an export adds to it
 abbrev pub loggedBy : Call → World → Effect → List Sent
@@ -106,6 +105,7 @@ loggedBy StartToken w e = w .log
 loggedBy (Dscan first count budget) w e = w .log
 loggedBy (Dcheck budget) w e = w .log
 loggedBy (Export stream resume info budget) w e = w .log ++ sentIn w info e
+loggedBy (Restore info budget) w e = w .log
 
 -- ---- the guest's memory, from the accepted calls on it: the guest's write and accept, the host's add and remove
 
@@ -132,13 +132,13 @@ rememberedBy StartToken m = m
 rememberedBy (Dscan first count budget) m = m
 rememberedBy (Dcheck budget) m = m
 rememberedBy (Export stream resume info budget) m = m
+rememberedBy (Restore info budget) m = m
 
 -- an accepted pause takes the copy
 abbrev pub takesCopy : Sweep → Bool
 takesCopy Track = false
 takesCopy Start = false
 takesCopy Pause = true
-takesCopy Abort = false
 
 -- and no other call does
 abbrev pub copiedBy : Call → (ℕ → Holding) → (ℕ → Holding) → ℕ → Holding
@@ -150,6 +150,7 @@ copiedBy StartToken m c = c
 copiedBy (Dscan first count budget) m c = c
 copiedBy (Dcheck budget) m c = c
 copiedBy (Export stream resume info budget) m c = c
+copiedBy (Restore info budget) m c = c
 
 -- ---- histories
 

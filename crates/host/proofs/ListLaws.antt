@@ -1,5 +1,5 @@
 -- Lists and buffers: one that passed its test is in whole words; and the place of the 42 of one that did not. 40 and 41 are the gate's, and every later code
--- of a scan or an export, whether one of its own tests gives it or its run, is neither.
+-- of a scan, an export or RESTORE, whether one of its own tests gives it or its run, is neither.
 use mathlib.Core.Path.{_≡_, refl, sym, ap, _∙_}
 use mathlib.Core.Bool.{Bool, true, false, cond, not}
 use mathlib.Core.List.{List, [], _∷_}
@@ -14,14 +14,16 @@ use Rattle.refusals.proofs.Laws.{either, and-left, allCodes, first-all}
 use Rattle.session.specs.Session.{among, moving}
 use Rattle.session.specs.Formed.{mostEntries, formed, gated}
 use Rattle.session.specs.declared.Phase.{Phase}
-use Rattle.session.specs.declared.Phase.the-variants.{Live, Blackout}
+use Rattle.session.specs.declared.Phase.the-variants.{Idle, Live, Blackout}
 use Rattle.session.specs.declared.Session.{Session}
 use Rattle.scan.specs.Scan.{ScanOutcome, ranScan, dscanTests, dscanCode, dscanOf, dcheckTests, dcheckCode, dcheckOf, checkedBy}
 use Rattle.scan.proofs.Outcomes.{OfScans, range-code, dscanned, dscan-either, dchecked, dcheck-either}
 use Rattle.export.specs.Export.{ExportOutcome, exportTests, exportCode, finishedBy, exportOut}
 use Rattle.export.proofs.Moves.{exported, finished-code}
+use Rattle.restore.specs.Restore.{restoreAsks, restoreCode, endedAt, RestoreOutcome, restoreRun}
+use Rattle.restore.proofs.Moves.{restore-either, ended-code}
 use Rattle.calls.specs.declared.Call.{Call}
-use Rattle.calls.specs.declared.Call.the-variants.{Dscan, Dcheck, Export}
+use Rattle.calls.specs.declared.Call.the-variants.{Dscan, Dcheck, Export, Restore}
 use Rattle.wire.specs.Bytes.{wordsOf}
 use Rattle.wire.specs.Sessions.{sessionOf}
 use Rattle.wire.proofs.BytesLaws.{words-length}
@@ -96,6 +98,20 @@ export-comes stream resume info budget =
           ran-place s (length t) moving tests (finishedBy s stream (infoOf info) at .code) refl (finished-code later s stream (infoOf info) at refl refl)
           (eqb-true _ 0 e))
           (λ e. gate-place s (length t) moving tests refl);
+    }
+
+pub restore-comes : (info budget : ℕ) → ComesIn (Restore info budget) (Idle ∷ [])
+unfolding restoreCode
+restore-comes info budget =
+    record {
+      reads = refl;
+      place = λ s t l b.
+          let x = infoOf info in
+          let tests = restoreAsks (length l) x in
+          let next = restoreRun s t l x budget .at .next in
+          restore-either (λ (o : RestoreOutcome). before42 (o .answer .code) ≡ firstGroup s (length t) (Idle ∷ [])) s t l info budget
+          (ran-place s (length t) (Idle ∷ []) tests (endedAt x next .code) refl (ended-code later x next refl refl))
+          (λ e. gate-place s (length t) (Idle ∷ []) tests refl);
     }
 
 -- so what is no list is refused there

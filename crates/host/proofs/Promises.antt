@@ -10,16 +10,16 @@ use borrow.Author.Tests.{lt-leb}
 use Rattle.words.specs.Codes as codes
 use Rattle.page.specs.declared.sweeps.Sweep.the-variants.{Track}
 use Rattle.table.specs.Table.{legal}
-use Rattle.session.specs.Session.{moving, newSession, begun}
+use Rattle.session.specs.Session.{moving, streamPlaces}
 use Rattle.session.specs.Formed.{formed, busy, gated}
 use Rattle.session.specs.declared.Phase.{Phase}
-use Rattle.session.specs.declared.Phase.the-variants.{Live, Blackout}
+use Rattle.session.specs.declared.Phase.the-variants.{Idle, Live, Blackout}
 use Rattle.session.specs.declared.Session.{Session}
 use Rattle.calls.specs.Promises.{named, refusal, isNew}
 use Rattle.calls.specs.declared.Call.{Call}
 use Rattle.calls.proofs.Codes.{answers-named}
 use Rattle.calls.proofs.Promises.{refusal-keeps}
-use Rattle.calls.specs.declared.Call.the-variants.{OnAll, Dscan, Dcheck, Export}
+use Rattle.calls.specs.declared.Call.the-variants.{OnAll, Dscan, Dcheck, Export, Restore}
 use Rattle.wire.specs.Bytes.{wordsOf, bytesOf}
 use Rattle.wire.specs.Sessions.{sessionOf, sessionWords}
 use Rattle.wire.proofs.BytesLaws.{bytes-length}
@@ -28,9 +28,9 @@ use Rattle.wire.proofs.Promises.{reads-back}
 use Rattle.host.specs.declared.answers.Numbers.{Numbers}
 use Rattle.host.specs.Host.{Lent, lent, Left, inLayout, isList, codeAlone, played, hostOf}
 use Rattle.host.specs.Promises.{Meets, OneOutcome, Untouched, codeAndPage, RefusalWritesNothing, NamedToC, NoLayout, firstGroup, noListIn, NoList}
-use Rattle.host.specs.Promises.{onePage, Gives42, Met}
+use Rattle.host.specs.Promises.{fresh, going, onePage, Gives42, Met}
 use Rattle.host.proofs.LayoutLaws.{host-none, host-either}
-use Rattle.host.proofs.ListLaws.{dscan-comes, dcheck-comes, export-comes, no-list}
+use Rattle.host.proofs.ListLaws.{dscan-comes, dcheck-comes, export-comes, restore-comes, no-list}
 
 abbrev left : Numbers → List ℕ → List ℕ → List ℕ → List ℕ → Left
 left n s t l b = record { answer = n; session = s; table = t; list = l; buffer = b }
@@ -108,26 +108,24 @@ no-list-no-call = record {
   resume = λ stream resume info budget x e n. answer-of
       (no-list _ _ x (export-comes stream resume info budget) e
       (rw (lt-leb (x .resume) 1 n) (and-false (isList (length (x .list)) && isList (length (x .buffer))))));
+  restore = λ info budget x e n. answer-of (no-list _ _ x (restore-comes info budget) e (rw n));
 }
 
 -- ---- each hypothesis is met
 
 -- what a session of one page in bytes means, and that it is in its layout
-module _ (phase : Phase) (f : formed (begun (newSession 1 2) phase 1) 2 ≡ true) where
-  abbrev session : Session
-  session = begun (newSession 1 2) phase 1
-
+module _ (session : Session) (f : formed session 2 ≡ true) (eight : length (session .streams) ≡ streamPlaces) where
   reads : sessionOf (wordsOf (bytesOf (sessionWords session))) ≡ session
-  reads = reads-back .session session (reads-back .formed session 2 f) refl
+  reads = reads-back .session session (reads-back .formed session 2 f) eight
 
-  in-layout : (c : Call) (list buffer resume : ℕ) → isNew c ≡ false → inLayout c (onePage phase list buffer resume) ≡ true
+  in-layout : (c : Call) (list buffer resume : ℕ) → isNew c ≡ false → inLayout c (onePage session list buffer resume) ≡ true
   unfolding legal
   in-layout c list buffer resume n =
       rw (bytes-length (sessionWords session), session-length session, n) (reads-back .layout session (reads-back .formed session 2 f))
 
   gives-42 : (c : Call) (phases : List Phase) (list buffer resume : ℕ) → isNew c ≡ false → firstGroup session 2 phases ≡ 42 →
-      (inLayout c (onePage phase list buffer resume) ≡ true →
-      hostOf c (onePage phase list buffer resume) .answer ≡ noListIn phases (onePage phase list buffer resume)) → Gives42 c (onePage phase list buffer resume)
+      (inLayout c (onePage session list buffer resume) ≡ true →
+      hostOf c (onePage session list buffer resume) .answer ≡ noListIn phases (onePage session list buffer resume)) → Gives42 c (onePage session list buffer resume)
   gives-42 c phases list buffer resume n e none =
       let layout = in-layout c list buffer resume n in
       (layout, none layout ∙ ap codeAlone (ap (λ (s : Session). firstGroup s 2 phases) reads ∙ e))
@@ -137,9 +135,10 @@ unfolding formed busy legal gated
 met = record {
   layout = refl;
   refused = ap (λ (n : Numbers). refusal (n .code)) (no-layout .all (OnAll Track) (lent [] []) refl);
-  dscan = (gives-42 Live refl (Dscan 0 1 1) (Live ∷ []) 7 0 0 refl refl (λ e. no-list-no-call .dscan 0 1 1 _ e refl), refl);
-  dcheck = (gives-42 Blackout refl (Dcheck 1) (Blackout ∷ []) 4104 0 0 refl refl (λ e. no-list-no-call .dcheck 1 _ e refl), refl);
-  list = (gives-42 Live refl (Export 0 false 0 1) moving 7 8 0 refl refl (λ e. no-list-no-call .list 0 false 0 1 _ e refl), refl);
-  buffer = (gives-42 Live refl (Export 0 false 0 1) moving 8 7 0 refl refl (λ e. no-list-no-call .buffer 0 false 0 1 _ e refl), refl);
-  resume = (gives-42 Live refl (Export 0 false 0 1) moving 8 8 2 refl refl (λ e. no-list-no-call .resume 0 false 0 1 _ e (lit< tt)), lit< tt);
+  dscan = (gives-42 (going Live) refl refl (Dscan 0 1 1) (Live ∷ []) 7 0 0 refl refl (λ e. no-list-no-call .dscan 0 1 1 _ e refl), refl);
+  dcheck = (gives-42 (going Blackout) refl refl (Dcheck 1) (Blackout ∷ []) 4104 0 0 refl refl (λ e. no-list-no-call .dcheck 1 _ e refl), refl);
+  list = (gives-42 (going Live) refl refl (Export 0 false 0 1) moving 7 8 0 refl refl (λ e. no-list-no-call .list 0 false 0 1 _ e refl), refl);
+  buffer = (gives-42 (going Live) refl refl (Export 0 false 0 1) moving 8 7 0 refl refl (λ e. no-list-no-call .buffer 0 false 0 1 _ e refl), refl);
+  resume = (gives-42 (going Live) refl refl (Export 0 false 0 1) moving 8 8 2 refl refl (λ e. no-list-no-call .resume 0 false 0 1 _ e (lit< tt)), lit< tt);
+  restore = (gives-42 fresh refl refl (Restore 0 1) (Idle ∷ []) 7 0 0 refl refl (λ e. no-list-no-call .restore 0 1 _ e refl), refl);
 }

@@ -28,7 +28,7 @@ use Rattle.host.specs.Host.{lent, played, hostOf}
 use Rattle.host.specs.Inside.{TokenTold}
 use Rattle.host.proofs.LayoutLaws.{Sound, table-kept, table-formed, change-kept, host-played}
 
--- ---- new epoch and reset
+-- ---- new epoch, reset and abort
 
 -- bytes that are the same either way
 pub either-kept : (b : Bool) {x y : List ℕ} → y ≡ x → x ≡ cond b x y

@@ -1,4 +1,4 @@
--- The C side's calls: what the bytes that a caller lends mean, and what each call leaves in them. One definition for all seventeen, over `effectOf`.
+-- The C side's calls: what the bytes that a caller lends mean, and what each call leaves in them. One definition for all eighteen, over `effectOf`.
 use mathlib.Core.Bool.{Bool, cond, not, _&&_, _||_}
 use mathlib.Core.List.{List, [], _∷_}
 use Prim.Native.Nat.{ℕ, _*_, _/_, _%_}

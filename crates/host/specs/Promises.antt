@@ -1,4 +1,4 @@
--- What holds of all seventeen functions.
+-- What holds of all eighteen functions.
 use mathlib.Core.Path.{_≡_}
 use mathlib.Core.Bool.{Bool, true, false}
 use mathlib.Core.List.{List, [], _∷_}
@@ -11,11 +11,11 @@ use Rattle.page.specs.declared.sweeps.Sweep.the-variants.{Track}
 use Rattle.session.specs.Session.{moving, newSession, begun}
 use Rattle.session.specs.Formed.{gated}
 use Rattle.session.specs.declared.Phase.{Phase}
-use Rattle.session.specs.declared.Phase.the-variants.{Live, Blackout}
+use Rattle.session.specs.declared.Phase.the-variants.{Idle, Live, Blackout}
 use Rattle.session.specs.declared.Session.{Session}
 use Rattle.calls.specs.Promises.{named, refusal}
 use Rattle.calls.specs.declared.Call.{Call}
-use Rattle.calls.specs.declared.Call.the-variants.{OnAll, Dscan, Dcheck, Export}
+use Rattle.calls.specs.declared.Call.the-variants.{OnAll, Dscan, Dcheck, Export, Restore}
 use Rattle.wire.specs.Bytes.{wordsOf, bytesOf}
 use Rattle.wire.specs.Sessions.{sessionOf, sessionWords}
 use Rattle.host.specs.declared.answers.Numbers.{Numbers}
@@ -60,7 +60,7 @@ pub record NamedToC : Type 0 where
 pub record NoLayout : Type 0 where
   pub all : (c : Call) (x : Lent) → inLayout c x ≡ false → hostOf c x .answer ≡ codeAlone codes.malformed
 
--- 40, 41, and then 42: the place of the first 42 in the order of the three calls that take a list
+-- 40, 41, and then 42: the place of the first 42 in the order of the calls that take a list
 abbrev pub firstGroup : Session → ℕ → List Phase → ℕ
 firstGroup s len phases = gated s len phases (true gives codes.operandInvalid ∷ [])
 
@@ -80,13 +80,22 @@ pub record NoList : Type 0 where
       isList (length (x .buffer)) ≡ false → hostOf (Export stream resume info budget) x .answer ≡ noListIn moving x
   pub resume : (stream : ℕ) (resume : Bool) (info budget : ℕ) (x : Lent) → inLayout (Export stream resume info budget) x ≡ true → 1 < x .resume →
       hostOf (Export stream resume info budget) x .answer ≡ noListIn moving x
+  pub restore : (info budget : ℕ) (x : Lent) → inLayout (Restore info budget) x ≡ true → isList (length (x .list)) ≡ false →
+      hostOf (Restore info budget) x .answer ≡ noListIn (Idle ∷ []) x
 
 -- ---- each hypothesis above is met
 
--- a session of one page and two streams, its table, and so many bytes for a list and a buffer
-abbrev pub onePage : Phase → ℕ → ℕ → ℕ → Lent
-onePage phase list buffer resume =
-    lentAll (bytesOf (sessionWords (begun (newSession 1 2) phase 1))) (replicate 16 0) (replicate list 0) (replicate buffer 0) resume
+-- a session of one page and two streams, as New makes it and in a migration
+abbrev pub fresh : Session
+fresh = newSession 1 2
+
+abbrev pub going : Phase → Session
+going phase = begun fresh phase 1
+
+-- it, its table, and so many bytes for a list and a buffer
+abbrev pub onePage : Session → ℕ → ℕ → ℕ → Lent
+onePage s list buffer resume =
+    lentAll (bytesOf (sessionWords s)) (replicate 16 0) (replicate list 0) (replicate buffer 0) resume
 
 -- in their layouts, with an operand that is none: 42
 abbrev pub Gives42 : Call → Lent → Type 0
@@ -97,8 +106,9 @@ pub record Met : Type 0 where
   pub layout : inLayout (OnAll Track) (lent [] []) ≡ false
   pub refused : refusal (hostOf (OnAll Track) (lent [] []) .answer .code) ≡ true
   -- seven bytes for a list or a buffer, a list of 513, a resume of 2
-  pub dscan : Gives42 (Dscan 0 1 1) (onePage Live 7 0 0) × (isList 7 ≡ false)
-  pub dcheck : Gives42 (Dcheck 1) (onePage Blackout 4104 0 0) × (isList 4104 ≡ false)
-  pub list : Gives42 (Export 0 false 0 1) (onePage Live 7 8 0) × (isList 7 ≡ false)
-  pub buffer : Gives42 (Export 0 false 0 1) (onePage Live 8 7 0) × (isList 7 ≡ false)
-  pub resume : Gives42 (Export 0 false 0 1) (onePage Live 8 8 2) × (1 < 2)
+  pub dscan : Gives42 (Dscan 0 1 1) (onePage (going Live) 7 0 0) × (isList 7 ≡ false)
+  pub dcheck : Gives42 (Dcheck 1) (onePage (going Blackout) 4104 0 0) × (isList 4104 ≡ false)
+  pub list : Gives42 (Export 0 false 0 1) (onePage (going Live) 7 8 0) × (isList 7 ≡ false)
+  pub buffer : Gives42 (Export 0 false 0 1) (onePage (going Live) 8 7 0) × (isList 7 ≡ false)
+  pub resume : Gives42 (Export 0 false 0 1) (onePage (going Live) 8 8 2) × (1 < 2)
+  pub restore : Gives42 (Restore 0 1) (onePage fresh 7 0 0) × (isList 7 ≡ false)

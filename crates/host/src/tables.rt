@@ -1,4 +1,4 @@
-// Calls that write no byte of the table: new epoch and reset, which ask for its length alone, and the start token, which looks at its pages in place.
+// Calls that write no byte of the table: new epoch, reset and abort, which ask for its length alone, and the start token, which looks at its pages in place.
 ghost use mathlib.Core.Path.{_≡_};
 ghost use mathlib.Core.Bool.{true};
 ghost use lib.ListN.{length};

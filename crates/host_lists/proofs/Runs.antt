@@ -11,7 +11,7 @@ use Rattle.words.specs.declared.infos.Info.{Info}
 use Rattle.refusals.proofs.Laws.{not-true}
 use Rattle.session.specs.Session.{moving, workOf}
 use Rattle.session.specs.Formed.{gated}
-use Rattle.session.specs.declared.Phase.the-variants.{Live, Blackout}
+use Rattle.session.specs.declared.Phase.the-variants.{Idle, Live, Blackout}
 use Rattle.session.specs.declared.Session.{Session}
 use Rattle.session.specs.declared.changes.Change.the-variants.{ToCheck, ToWork}
 use Rattle.scan.specs.Scan.{ScanOut, rangeRun, answerOf, checkAfter, checkedBy, dscanTests, dscanCode, dscanOf, dscanOut, dcheckTests, dcheckCode}
@@ -24,9 +24,12 @@ use Rattle.lists.specs.declared.runs.Progress.{Progress}
 use Rattle.export.specs.Export.{exportTests, exportCode, exportStep, begunBy, endedBy, exportOut}
 use Rattle.export.proofs.Laws.{finished-ended}
 use Rattle.export.proofs.Moves.{finished-code}
+use Rattle.restore.specs.Restore.{restoreAsks, restoreCode, endedAt, restoreRun, restoreOut}
+use Rattle.restore.specs.declared.Ended.{Ended}
+use Rattle.restore.proofs.Moves.{ended-code}
 use Rattle.calls.specs.Calls.{effectOf}
 use Rattle.calls.specs.Promises.{refusal}
-use Rattle.calls.specs.declared.Call.the-variants.{Dscan, Dcheck, Export}
+use Rattle.calls.specs.declared.Call.the-variants.{Dscan, Dcheck, Export, Restore}
 use Rattle.wire.specs.Bytes.{wordsOf, bytesOf, Bytes}
 use Rattle.wire.specs.Sessions.{sessionOf, writtenBy}
 use Rattle.wire.proofs.ChangeLaws.{change-written}
@@ -43,7 +46,7 @@ scans-unrefused : OfScans unrefused
 unfolding unrefused
 scans-unrefused = record { done = refl; interrupted = refl; full = refl; complete = refl; blocked = refl }
 
-no-words : wordsOf [] ≡ []
+pub no-words : wordsOf [] ≡ []
 unfolding wordsOf
 no-words = refl
 
@@ -72,11 +75,21 @@ module _ (s : Session) (t l b : List ℕ) where
   unfolding exportOut exportCode
   export-refuses stream resume info budget n = rw n
 
+  pub restore-refuses : (info budget : ℕ) (x : Info) → x ≡ infoOf info →
+      let code = gated s (length t) (Idle ∷ []) (restoreAsks (length l) x) in
+      eqb code 0 ≡ false → effectOf (Restore info budget) s t l b .returned .code ≡ code
+  unfolding restoreOut restoreCode
+  restore-refuses info budget x is n = rw (← is, n)
+
 -- ---- what is left by a call that ran
 
 -- part by part
 abbrev pub left : Numbers → List ℕ → List ℕ → List ℕ → List ℕ → Left
 left n s t l b = record { answer = n; session = s; table = t; list = l; buffer = b }
+
+-- how RESTORE is told in numbers
+abbrev pub restoredNumbers : Ended → Numbers
+restoredNumbers e = record { code = e .code; page = 0; next = 0; first = 0; last = 0; info = e .info; errors = 0; buffers = 0 }
 
 module _ (s t l : List ℕ) (y : Bytes s) (h : Sound s (length t)) where
   abbrev read : Session
@@ -118,6 +131,21 @@ module _ (s t l : List ℕ) (y : Bytes s) (h : Sound s (length t)) where
           no-words,
           change-written (ToCheck (checkAfter (dcheckRun .scanned))) s y (h .long) (h .layout),
         )
+
+  module _ (info budget : ℕ) (x : Info) (is : x ≡ infoOf info) where
+    abbrev restored : Standing
+    restored = restoreRun read (wordsOf t) (wordsOf l) x budget
+
+    restore-unrefused : refusal (endedAt x (restored .at .next) .code) ≡ false
+    unfolding unrefused
+    restore-unrefused = not-true (refusal (endedAt x (restored .at .next) .code)) (ended-code unrefused x (restored .at .next) refl refl)
+
+    pub restore-ran : inWords (lentList s t l) ≡ true → gated read (length (wordsOf t)) (Idle ∷ []) (restoreAsks (length (wordsOf l)) x) ≡ 0 →
+        hostOf (Restore info budget) (lentList s t l) ≡ left (restoredNumbers (endedAt x (restored .at .next))) s
+        (bytesOf (restored .table)) (bytesOf (restored .list)) []
+    unfolding played restoreOut restoreCode
+    restore-ran w e =
+        rw (host-played (Restore info budget) (lentList s t l) refl h w, ← is, e, restore-unrefused, no-words, session-kept s (length t) y h)
 
 -- an export is told what it goes by
 module _ (s t l b : List ℕ) (y : Bytes s) (h : Sound s (length t)) (stream resume info budget : ℕ) (x : Info) (is : x ≡ infoOf info) (g : Ground)

@@ -4,14 +4,11 @@ ghost use mathlib.Core.Bool.{true, _&&_};
 ghost use Prim.Native.Nat.{_*_, _/_};
 ghost use lib.Dec.{eqb, leb};
 ghost use lib.ListN.{length};
-ghost use Rattle.entry.specs.Entry.{groundOf};
 ghost use Rattle.calls.specs.declared.Call.the-variants.{Export};
-ghost use Rattle.wire.specs.Bytes.{wordsOf};
-ghost use Rattle.wire.specs.Sessions.{sessionLength, sessionOf};
+ghost use Rattle.wire.specs.Sessions.{sessionLength};
 ghost use Rattle.host.specs.Host.{Lent, lentAll, Left, hostOf, isList};
 ghost use Rattle.host.specs.Inside.{sound};
 ghost use Rattle.host_lists.specs.Inside.{exportGate, endedNumbers};
-use entry::Ground;
 use export::Ended;
 use host::answers;
 use host::answers::Numbers;
@@ -23,22 +20,6 @@ use session::changes::Change;
 use wire::sessions;
 use words::codes;
 use words::infos;
-
-fn ground_at(session: &[u8]) -> Ground
-    requires { ⌜ length (now session) ≡ 8 * sessionLength ⌝ }
-    ensures { λ r. ⌜ r ≡ groundOf (sessionOf (wordsOf (now (session .entry)))) ⌝ }
-{
-    let phase = sessions::phase_at(session);
-    let clock = sessions::clock_at(session);
-    let epoch = sessions::epoch_at(session);
-    let pages = sessions::pages_at(session);
-    Ground {
-        phase,
-        clock,
-        epoch,
-        pages: pages as u64,
-    }
-}
 
 // Past 40: 41, and 42 of what is no list, no buffer or no resume.
 fn gate_at(session: &[u8], list: usize, buffer: usize, resume: u64) -> u64
@@ -106,7 +87,7 @@ fn export_sound(
     if code != codes::DONE {
         return answers::code_alone(code);
     }
-    let g = ground_at(&session[..]);
+    let g = crate::ground_at(&session[..]);
     let from = export::begin(work);
     let at = runs::run_entries(table, list, buffer, from, x.last, budget, Kind::Export, g);
     let ended = export::end(x, at);

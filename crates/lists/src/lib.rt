@@ -18,6 +18,7 @@ pub mod runs;
 // The calls that take a list: each has its own step for one entry, and they share all else.
 pub enum Kind {
     Export,
+    Restore,
 }
 
 // What the step makes, on the call's ground, of an entry's word, its buffer's word and the words of the page that it names.
@@ -26,6 +27,7 @@ pub fn take(kind: Kind, g: Ground, word: u64, held: u64, w: PageWords) -> Taken
 {
     match kind {
         Kind::Export => entry::take_entry(word, w, g), // what the buffer holds is written and not read
+        Kind::Restore => restoring::take_entry(word, held, w, g),
     }
 }
 

@@ -46,7 +46,7 @@ page-passed m s len at p e =
     let f = not-false (formed s len) (d .0) in
     let ours : len / 2 ≡ s .fixed .pages = formed-means s len f .ours in
     let below : at < s .fixed .pages = leb-false (s .fixed .pages) at (d .1 .1 .1 .0) in
-    record { formed = f; comes = not-false (among guest (s .phase)) (d .1 .1 .0); below = omega arith; moves = d .1 .1 .1 .1 }
+    record { formed = f; comes = not-false (among guest (s .phase)) (d .1 .1 .0); below = omega arith; moves = d .1 .1 .1 .1 .1 }
 
 module _ (m : Move) (s : Session) (t : List ℕ) (at : ℕ) where
   abbrev code : ℕ

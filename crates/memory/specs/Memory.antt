@@ -6,8 +6,8 @@ use lib.Dec.{leb}
 use lib.ListN.{length, replicate}
 use Rattle.words.specs.Codes as codes
 use Rattle.refusals.specs.Refusals.{Test, _gives_, firstOf}
-use Rattle.page.specs.Page.{Page, pageOf, onWords}
-use Rattle.page.specs.Moves.{isBlock, moveTests, movedBy}
+use Rattle.page.specs.Page.{Page, pageOf, onWords, left}
+use Rattle.page.specs.Moves.{isBlock, isWrite, moveTests, movedBy}
 use Rattle.page.specs.declared.Clock.{Clock}
 use Rattle.page.specs.declared.PageWords.{PageWords}
 use Rattle.page.specs.declared.moves.Move.{Move}
@@ -16,7 +16,7 @@ use Rattle.session.specs.Session.{among, guest, newSession}
 use Rattle.session.specs.Formed.{formed, within, fewestCreated, mostCreated}
 use Rattle.session.specs.Outcome.{Outcome, answered}
 use Rattle.session.specs.declared.Phase.{Phase}
-use Rattle.session.specs.declared.Phase.the-variants.{Blackout}
+use Rattle.session.specs.declared.Phase.the-variants.{Idle, Blackout}
 use Rattle.session.specs.declared.Session.{Session}
 use Rattle.memory.specs.declared.Turn.{Turn}
 
@@ -34,12 +34,14 @@ newOut s t created =
 
 -- ---- calls on one page
 
--- behind 40: a block in Blackout is 49; 41; a page number beyond the table is 42; then what the call asks of its page
+-- behind 40: a block in Blackout is 49; 41; a page number beyond the table is 42; while Idle 45 of a page that a migration left, but for a write; then what
+-- the call asks of its page
 abbrev pub turnTests : Move → Phase → ℕ → Clock → ℕ → Page → List Test
 turnTests m phase pages clock at p =
     (isBlock m && among (Blackout ∷ []) phase) gives codes.blockingDisallowed
     ∷ not (among guest phase) gives codes.opStateIncorrect
     ∷ leb pages at gives codes.operandInvalid
+    ∷ (among (Idle ∷ []) phase && not (isWrite m) && left p) gives codes.eptEntryStateIncorrect
     ∷ moveTests m p clock
 
 abbrev pub pageTests : Move → Session → ℕ → ℕ → Page → List Test

@@ -7,6 +7,7 @@ use page::Clock;
 use page::PageWords;
 use page::moves;
 use page::moves::Move;
+use page::queries;
 use session::Answer;
 use session::Phase;
 use session::Session;
@@ -48,9 +49,12 @@ fn turn_code(m: Move, phase: Phase, pages: usize, clock: Clock, at: usize, w: Pa
 {
     let comes = session::comes_in(phase);
     let block = moves::is_block(m);
+    let write = moves::is_write(m);
+    let left = queries::is_left(w);
     let beyond = pages <= at;
     let barred = block & comes.blackout;
     let away = !comes.guest;
+    let waits = comes.idle & !write & left;
     if barred {
         return codes::BLOCKING_DISALLOWED;
     }
@@ -59,6 +63,9 @@ fn turn_code(m: Move, phase: Phase, pages: usize, clock: Clock, at: usize, w: Pa
     }
     if beyond {
         return codes::OPERAND_INVALID;
+    }
+    if waits {
+        return codes::EPT_ENTRY_STATE_INCORRECT; // for RESTORE, and a write
     }
     moves::move_code(m, w, clock)
 }

@@ -3,7 +3,6 @@ use mathlib.Core.Path.{_≡_, refl, ap}
 use mathlib.Core.Bool.{Bool, true, false, cond, not, _||_}
 use mathlib.Core.List.{List, [], _∷_}
 use Prim.Native.Nat.{ℕ, _≤_}
-use native.Mathlib.Omega.{arith}
 use lib.Dec.{eqb, ltb}
 use lib.ListN.{length}
 use borrow.Author.Tests.{eqb-true, ltb-false}
@@ -13,7 +12,7 @@ use Rattle.refusals.proofs.Laws.{not-true, allCodes, first-all, refuses, refuse
 use Rattle.page.specs.Page.{onWords, gives53, gives54}
 use Rattle.page.specs.Sweeps.{sweptBy}
 use Rattle.page.specs.declared.sweeps.Sweep.{Sweep}
-use Rattle.page.specs.declared.sweeps.Sweep.the-variants.{Track, Start, Pause, Abort}
+use Rattle.page.specs.declared.sweeps.Sweep.the-variants.{Track, Start, Pause}
 use Rattle.table.specs.Table.{pageCount, sweepOf, lowest, some}
 use Rattle.session.specs.Session.{phasesOf, changedBy}
 use Rattle.session.specs.Formed.{busy, gateTests, gated, behind}
@@ -25,7 +24,7 @@ use Rattle.migration.specs.Migration.{sweepWhen, stopsAt, stopped, sweep
 use Rattle.migration.specs.Migration.{aloneWhen, aloneTests, aloneChange, aloneNext, aloneCode, aloneVerdict, aloneAnswer, onSession}
 use Rattle.migration.specs.Token.{TokenNumbers, tokenSays, tokenGate, tokenCode, inTheWay, tokenFor, tokenOut, tokenTold, tokenChange}
 use Rattle.migration.specs.declared.Alone.{Alone}
-use Rattle.migration.specs.declared.Alone.the-variants.{NewEpoch, Reset}
+use Rattle.migration.specs.declared.Alone.the-variants.{NewEpoch, Reset, Abort}
 use Rattle.migration.specs.declared.token.Token.the-variants.{Granted, Refused, InTheWay}
 
 -- ---- the calls on every page
@@ -35,7 +34,6 @@ pub sweep-refuses : (k : Sweep) (s : Session) (stops : Bool) → allCodes refuse
 sweep-refuses Track s stops = refl
 sweep-refuses Start s stops = refl
 sweep-refuses Pause s stops = refl
-sweep-refuses Abort s stops = refl
 
 -- past its gate and its tests
 abbrev pub SweepOpen : Sweep → Session → List ℕ → Type 0
@@ -73,6 +71,7 @@ sweep-told k s t gate stops e f =
 pub alone-refuses : (k : Alone) (s : Session) → allCodes refuses (aloneTests k s) ≡ true
 alone-refuses NewEpoch s = refl
 alone-refuses Reset s = refl
+alone-refuses Abort s = refl
 
 abbrev pub AloneOpen : Alone → Session → ℕ → Type 0
 AloneOpen k s len = Open s len (phasesOf (aloneWhen k)) (aloneTests k s)
@@ -113,17 +112,6 @@ alone-told k s len gate e =
 -- they leave the table
 pub alone-table : (k : Alone) (s : Session) (t : List ℕ) → onSession k s t .table ≡ t
 alone-table k s t = alone-either (λ (o : Outcome). o .table ≡ t) k s t (λ o. refl) (λ e. refl)
-
--- and of the session the phase, the clock and the streams; no epoch goes back
-pub record Leaves (s s' : Session) : Type 0 where
-  pub phase : s' .phase ≡ s .phase
-  pub clock : s' .clock ≡ s .clock
-  pub streams : s' .streams ≡ s .streams
-  pub epoch : s .epoch ≤ s' .epoch
-
-pub alone-leaves : (k : Alone) (s : Session) → Leaves s (aloneNext k s)
-alone-leaves NewEpoch s = record { phase = refl; clock = refl; streams = refl; epoch = omega arith }
-alone-leaves Reset s = record { phase = refl; clock = refl; streams = refl; epoch = omega arith }
 
 -- ---- the token
 

@@ -11,7 +11,7 @@ use Rattle.page.specs.Sweeps.{sweptBy}
 use Rattle.page.specs.declared.Clock.{Clock}
 use Rattle.page.specs.declared.queries.Sought.the-variants.{Unstartable, Blocked}
 use Rattle.page.specs.declared.sweeps.Sweep.{Sweep}
-use Rattle.page.specs.declared.sweeps.Sweep.the-variants.{Track, Start, Pause, Abort}
+use Rattle.page.specs.declared.sweeps.Sweep.the-variants.{Track, Start, Pause}
 use Rattle.table.specs.Table.{some}
 use Rattle.session.specs.Session.{phasesOf, unchecked, ticked, changedBy}
 use Rattle.session.specs.Formed.{gated, behind, busy, lastEpoch}
@@ -27,23 +27,21 @@ use Rattle.session.specs.declared.changes.Verdict.{Verdict}
 use Rattle.migration.specs.declared.Stops.{Stops}
 use Rattle.migration.specs.declared.Stops.the-variants.{Never, At}
 use Rattle.migration.specs.declared.Alone.{Alone}
-use Rattle.migration.specs.declared.Alone.the-variants.{NewEpoch, Reset}
+use Rattle.migration.specs.declared.Alone.the-variants.{NewEpoch, Reset, Abort}
 
--- ---- the calls on every page: track, start, pause, abort
+-- ---- the calls on every page: track, start, pause
 
 -- the phases in which each comes
 abbrev pub sweepWhen : Sweep → When
 sweepWhen Track = when.Guest
 sweepWhen Start = when.Idle
 sweepWhen Pause = when.Live
-sweepWhen Abort = when.Moving
 
 -- start: any state outside 0 to 4, or strange; pause: any of 1, 3, 26, 31
 abbrev pub stopsAt : Sweep → Stops
 stopsAt Track = Never
 stopsAt Start = At Unstartable
 stopsAt Pause = At Blocked
-stopsAt Abort = Never
 
 abbrev pub stopped : Stops → List ℕ → Bool
 stopped Never t = false
@@ -54,18 +52,15 @@ abbrev pub sweepAsks : Sweep → Clock → Bool → Bool → List Test
 sweepAsks Track clock busy stops = leb lastEpoch (clock .tlb) gives codes.tlbEpochAtLimit ∷ []
 sweepAsks Start clock busy stops = stops gives codes.eptEntryStateIncorrect ∷ []
 sweepAsks Pause clock busy stops = stops gives codes.blockedMemoryExists ∷ busy gives codes.operandBusy ∷ []
-sweepAsks Abort clock busy stops = []
 
 abbrev pub sweepTests : Sweep → Session → Bool → List Test
 sweepTests k s stops = sweepAsks k (s .clock) (busy s) stops
 
--- track: TLB epoch plus one; start: Live, migration epoch 1, check reset, streams at rest; pause: Blackout;
--- abort: Idle, the session's migration epoch 0, streams at rest, check reset
+-- track: TLB epoch plus one; start: Live, migration epoch 1, check reset, streams at rest; pause: Blackout
 abbrev pub sweepChange : Sweep → Clock → Change
 sweepChange Track clock = ToClock (ticked clock)
 sweepChange Start clock = Begin Live 1
 sweepChange Pause clock = ToPhase Blackout
-sweepChange Abort clock = Begin Idle 0
 
 abbrev pub sweepNext : Sweep → Session → Session
 sweepNext k s = changedBy (sweepChange k (s .clock)) s
@@ -81,24 +76,27 @@ onAll k s t = answeredBy (sweptBy k) (sweepCode k s t) s (sweepNext k s) t
 unfoldable pub sweepVerdict : Sweep → ℕ → Clock → Bool → Bool → Verdict
 sweepVerdict k gate clock busy stops = verdictFor (behind gate (sweepAsks k clock busy stops)) (sweepChange k clock)
 
--- ---- the calls on the session alone: new epoch, reset
+-- ---- the calls on the session alone: new epoch, reset, abort
 
 abbrev pub aloneWhen : Alone → When
 aloneWhen NewEpoch = when.Moving
 aloneWhen Reset = when.Moving
+aloneWhen Abort = when.Moving
 
 -- new epoch: 43, 55
 abbrev pub aloneAsks : Alone → ℕ → Bool → List Test
 aloneAsks NewEpoch epoch busy = busy gives codes.operandBusy ∷ leb lastEpoch epoch gives codes.migrationEpochOverflow ∷ []
 aloneAsks Reset epoch busy = []
+aloneAsks Abort epoch busy = []
 
 abbrev pub aloneTests : Alone → Session → List Test
 aloneTests k s = aloneAsks k (s .epoch) (busy s)
 
--- new epoch: plus one; reset: page 0, neither complete nor failed
+-- new epoch: plus one; reset: page 0, neither complete nor failed; abort: Idle, the session's migration epoch 0, streams at rest, check reset
 abbrev pub aloneChange : Alone → ℕ → Change
 aloneChange NewEpoch epoch = ToEpoch (epoch + 1)
 aloneChange Reset epoch = ToCheck unchecked
+aloneChange Abort epoch = Begin Idle 0
 
 abbrev pub aloneNext : Alone → Session → Session
 aloneNext k s = changedBy (aloneChange k (s .epoch)) s

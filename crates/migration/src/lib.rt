@@ -27,7 +27,6 @@ pub fn sweep_when(k: Sweep) -> When
         Sweep::Track => When::Guest,
         Sweep::Start => When::Idle,
         Sweep::Pause => When::Live,
-        Sweep::Abort => When::Moving,
     }
 }
 
@@ -48,7 +47,6 @@ pub fn stops_at(k: Sweep) -> Stops
         Sweep::Pause => Stops::At {
             kind: Sought::Blocked,
         },
-        Sweep::Abort => Stops::Never,
     }
 }
 
@@ -102,10 +100,6 @@ pub fn sweep_verdict(k: Sweep, gate: u64, clock: Clock, busy: bool, stops: bool)
                 phase: Phase::Blackout,
             })
         }
-        Sweep::Abort => changes::make(Change::Begin {
-            phase: Phase::Idle,
-            epoch: 0,
-        }),
     }
 }
 
@@ -127,6 +121,7 @@ pub fn on_all(k: Sweep, s: Session, table: &mut [u64]) -> Answer
 pub enum Alone {
     NewEpoch,
     Reset,
+    Abort,
 }
 
 // The phases in which it comes.
@@ -136,6 +131,7 @@ pub fn alone_when(k: Alone) -> When
     match k {
         Alone::NewEpoch => When::Moving,
         Alone::Reset => When::Moving,
+        Alone::Abort => When::Moving,
     }
 }
 
@@ -160,6 +156,10 @@ pub fn alone_verdict(k: Alone, gate: u64, epoch: u64, busy: bool) -> Verdict
             let check = changes::no_check();
             changes::make(Change::ToCheck { check })
         }
+        Alone::Abort => changes::make(Change::Begin {
+            phase: Phase::Idle,
+            epoch: 0,
+        }),
     }
 }
 

@@ -35,3 +35,7 @@ operationNumbers =
 abbrev pub hintNumbers : List ℕ
 hintNumbers =
     Hints.notExported ∷ Hints.exportedModified ∷ Hints.exportedBlocked ∷ Hints.exportedRemoved ∷ []
+
+-- what OPERATION is called in a list for RESTORE
+abbrev pub restoreNumbers : List ℕ
+restoreNumbers = Operations.nop ∷ Operations.restore ∷ []

@@ -1,6 +1,6 @@
 // Prints the named numbers of `words`, each list in its order. That the code and specs/ give each name the same number is proved on the way.
 ghost use mathlib.Core.Path.{_≡_};
-ghost use Rattle.named_numbers.specs.Named.{codeNumbers, stateNumbers, statusNumbers, operationNumbers, hintNumbers};
+ghost use Rattle.named_numbers.specs.Named.{codeNumbers, stateNumbers, statusNumbers, operationNumbers, hintNumbers, restoreNumbers};
 use libc::STDOUT_FILENO;
 use words::codes;
 use words::hints;
@@ -115,6 +115,13 @@ fn hint_numbers() -> [u64; 4]
     ]
 }
 
+// Of a list for RESTORE.
+fn restore_numbers() -> [u64; 2]
+    ensures { λ r. ⌜ r ≡ restoreNumbers ⌝ }
+{
+    [operations::NOP, operations::RESTORE]
+}
+
 fn text(s: &[u8]) {
     io::write_all(STDOUT_FILENO, s);
 }
@@ -144,4 +151,5 @@ fn main() {
     list(b"statuses", &status_numbers());
     list(b"operations", &operation_numbers());
     list(b"hints", &hint_numbers());
+    list(b"restores", &restore_numbers());
 }

@@ -6,18 +6,18 @@ use Prim.Native.Nat.{ℕ, _<_, _^_}
 use lib.Dec.{eqb, lit<}
 use Rattle.refusals.proofs.Laws.{Passed, allCodes, refuses}
 use Rattle.states.specs.States.{State, Strange, Change, stateOf, isStrange, isIn, hasMove, goesBy, numberBy}
-use Rattle.states.specs.Lists.{adds, accepts, blocks, unblocks, removes, aborts}
+use Rattle.states.specs.Lists.{adds, accepts, blocks, unblocks, removes, restores}
 use Rattle.states.proofs.Masks.{has-move}
 use Rattle.states.proofs.Laws.{strange-is, Each, goes-each}
 use Rattle.page.specs.Page.{Page, pageOf, strange}
 use Rattle.page.specs.Moves.{changesOf, writable, moveTests, movedBy}
-use Rattle.page.specs.Sweeps.{uncached, keptStamp, refreshed, sweptBy}
+use Rattle.page.specs.Sweeps.{uncached, keptStamp, refreshed, restored, sweptBy}
 use Rattle.page.specs.declared.Clock.{Clock}
 use Rattle.page.specs.declared.PageWords.{PageWords}
 use Rattle.page.specs.declared.moves.Move.{Move}
 use Rattle.page.specs.declared.moves.Move.the-variants.{Write, Add, Accept, Block, Unblock, Remove}
 use Rattle.page.specs.declared.sweeps.Sweep.{Sweep}
-use Rattle.page.specs.declared.sweeps.Sweep.the-variants.{Track, Start, Pause, Abort}
+use Rattle.page.specs.declared.sweeps.Sweep.the-variants.{Track, Start, Pause}
 use Rattle.page.proofs.Laws.{Held}
 
 has : (m : Move) (n : ℕ) → n < 2 ^ 8 → not (eqb (numberBy (changesOf m) n) n) ≡ hasMove (changesOf m) (stateOf n)
@@ -108,9 +108,9 @@ refreshed-held p to k h = record { known = k; stamp = by (isIn to _); migrated =
     by true = h .stamp
     by false = lit< tt
 
-abort-known : Known aborts
+restore-known : Known restores
 unfolding isStrange
-abort-known = (refl, (refl, (refl, (refl, (refl, (refl, (refl, tt)))))))
+restore-known = (refl, (refl, (refl, (refl, (refl, (refl, (refl, tt)))))))
 
 uncached-held : (p : Page) → Held p → Held (uncached p)
 uncached-held p h = record { known = h .known; stamp = h .stamp; migrated = h .migrated }
@@ -119,4 +119,6 @@ pub swept-held : (k : Sweep) (p : Page) → Held p → Held (sweptBy k p)
 swept-held Track p h = uncached-held p h
 swept-held Start p h = refreshed-held p (p .state) (h .known) h
 swept-held Pause p h = uncached-held p h
-swept-held Abort p h = refreshed-held p (goesBy aborts (p .state)) (known-by aborts abort-known (p .state) (h .known)) h
+
+pub restored-held : (p : Page) → Held p → Held (restored p)
+restored-held p h = refreshed-held p (goesBy restores (p .state)) (known-by restores restore-known (p .state) (h .known)) h

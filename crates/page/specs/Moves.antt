@@ -29,6 +29,15 @@ isBlock Block = true
 isBlock Unblock = false
 isBlock Remove = false
 
+-- the one call that a page which a migration left takes while Idle
+abbrev pub isWrite : Move → Bool
+isWrite (Write mark) = true
+isWrite Add = false
+isWrite Accept = false
+isWrite Block = false
+isWrite Unblock = false
+isWrite Remove = false
+
 -- in 4, 24, 25; in 1 and 26 only if Cached is set
 unfoldable pub writable : Page → Bool
 writable p = isIn (p .state) writableStates || (isIn (p .state) landingStates && p .cached)

@@ -5,7 +5,7 @@ use lib.Dec.{eqb, ltb}
 use Rattle.records.specs.Record.{recordOf, recordWord, plain}
 use Rattle.records.specs.declared.Record.{Record}
 use Rattle.states.specs.States.{State, Strange, strangeNumber, stateOf, numberOf, isStrange, isIn}
-use Rattle.states.specs.Lists.{startableStates, blockedStates, changedStates, sentStates, unsentStates}
+use Rattle.states.specs.Lists.{startableStates, blockedStates, changedStates, sentStates, unsentStates, leftStates}
 use Rattle.page.specs.declared.Clock.{Clock}
 use Rattle.page.specs.declared.PageWords.{PageWords}
 use Rattle.page.specs.declared.queries.Sought.{Sought}
@@ -63,6 +63,10 @@ blocked p = isIn (p .state) blockedStates
 -- outside 0 to 4, or strange
 abbrev pub unstartable : Page → Bool
 unstartable p = not (isIn (p .state) startableStates)
+
+-- in 24 to 27 or 29 to 31, as a migration leaves it
+abbrev pub left : Page → Bool
+left p = isIn (p .state) leftStates
 
 -- in 25, 26, 27, 30, 31, or in 24 or 29 with Dirty
 unfoldable pub gives53 : Page → Bool

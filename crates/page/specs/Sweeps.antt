@@ -1,11 +1,11 @@
--- What track, start, pause and abort make of every page.
+-- What track, start and pause make of every page, and RESTORE of one that it is told of.
 use mathlib.Core.Bool.{false, cond}
 use Prim.Native.Nat.{ℕ}
 use Rattle.states.specs.States.{State, isIn, goesBy}
-use Rattle.states.specs.Lists.{stampedStates, aborts}
+use Rattle.states.specs.Lists.{stampedStates, restores}
 use Rattle.page.specs.Page.{Page}
 use Rattle.page.specs.declared.sweeps.Sweep.{Sweep}
-use Rattle.page.specs.declared.sweeps.Sweep.the-variants.{Track, Start, Pause, Abort}
+use Rattle.page.specs.declared.sweeps.Sweep.the-variants.{Track, Start, Pause}
 
 -- track and pause: Cached cleared
 abbrev pub uncached : Page → Page
@@ -22,11 +22,10 @@ refreshed p to = record { state = to; dirty = p .dirty; cached = p .cached; stam
 abbrev pub started : Page → Page
 started p = refreshed p (p .state)
 
-abbrev pub aborted : Page → Page
-aborted p = refreshed p (goesBy aborts (p .state))
+abbrev pub restored : Page → Page
+restored p = refreshed p (goesBy restores (p .state))
 
 abbrev pub sweptBy : Sweep → Page → Page
 sweptBy Track p = uncached p
 sweptBy Start p = started p
 sweptBy Pause p = uncached p
-sweptBy Abort p = aborted p

@@ -7,7 +7,7 @@ ghost use Rattle.words.specs.Codes as codes;
 ghost use Rattle.refusals.specs.Refusals.{_gives_, firstOf};
 ghost use Rattle.states.specs.States.{State, numberOf, numberBy, goesBy};
 ghost use Rattle.page.specs.Page.{pageOf, wordsFor, strange, onWords};
-ghost use Rattle.page.specs.Moves.{changesOf, isBlock, writable, moveTests, stored, emptied, restamped, movedBy};
+ghost use Rattle.page.specs.Moves.{changesOf, isBlock, isWrite, writable, moveTests, stored, emptied, restamped, movedBy};
 use crate::Clock;
 use crate::PageWords;
 use crate::queries;
@@ -47,6 +47,20 @@ pub fn is_block(m: Move) -> bool
         Move::Add => false,
         Move::Accept => false,
         Move::Block => true,
+        Move::Unblock => false,
+        Move::Remove => false,
+    }
+}
+
+// While Idle a page that a migration left takes no other call.
+pub fn is_write(m: Move) -> bool
+    ensures { λ r. ⌜ r ≡ isWrite m ⌝ }
+{
+    match m {
+        Move::Write { mark: _ } => true,
+        Move::Add => false,
+        Move::Accept => false,
+        Move::Block => false,
         Move::Unblock => false,
         Move::Remove => false,
     }

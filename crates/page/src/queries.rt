@@ -1,6 +1,6 @@
 // What is asked of a page, each by its name.
 ghost use mathlib.Core.Path.{_≡_};
-ghost use Rattle.page.specs.Page.{pageOf, tracked, strange, blocked, unstartable, gives53, gives54, sought};
+ghost use Rattle.page.specs.Page.{pageOf, tracked, strange, blocked, left, unstartable, gives53, gives54, sought};
 use crate::Clock;
 use crate::PageWords;
 
@@ -21,6 +21,13 @@ pub fn is_blocked(w: PageWords) -> bool
     ensures { λ r. ⌜ r ≡ blocked (pageOf w) ⌝ }
 {
     states::is_blocked(crate::state_of(w))
+}
+
+// A migration left it, and only RESTORE takes it back.
+pub fn is_left(w: PageWords) -> bool
+    ensures { λ r. ⌜ r ≡ left (pageOf w) ⌝ }
+{
+    states::is_left(crate::state_of(w))
 }
 
 // A start refuses it.

@@ -1,9 +1,9 @@
-// What track, start, pause and abort make of every page. A strange one stays as it is.
+// What track, start and pause make of every page, and RESTORE of one that it is told of. A strange one stays as it is.
 ghost use mathlib.Core.Path.{_≡_};
 ghost use mathlib.Core.Bool.{false, cond};
 ghost use Rattle.states.specs.States.{State, numberOf};
 ghost use Rattle.page.specs.Page.{pageOf, wordsFor, strange, onWords};
-ghost use Rattle.page.specs.Sweeps.{uncached, refreshed, sweptBy};
+ghost use Rattle.page.specs.Sweeps.{uncached, refreshed, restored, sweptBy};
 use crate::PageWords;
 
 // No processor has its translation any more.
@@ -37,7 +37,6 @@ pub enum Sweep {
     Track,
     Start,
     Pause,
-    Abort,
 }
 
 fn swept(k: Sweep, w: PageWords, n: u8) -> PageWords
@@ -47,7 +46,6 @@ fn swept(k: Sweep, w: PageWords, n: u8) -> PageWords
         Sweep::Track => uncache(w),
         Sweep::Start => refresh(w, n),
         Sweep::Pause => uncache(w),
-        Sweep::Abort => refresh(w, states::abort_of(n)),
     }
 }
 
@@ -60,4 +58,16 @@ pub fn sweep_words(k: Sweep, w: PageWords) -> PageWords
         return w;
     }
     swept(k, w, n)
+}
+
+// The page's two words once it is restored.
+pub fn restore_words(w: PageWords) -> PageWords
+    ensures { λ r. ⌜ r ≡ onWords restored w ⌝ }
+{
+    let n = crate::state_of(w);
+    let after = refresh(w, states::restore_of(n));
+    if states::is_strange(n) {
+        return w;
+    }
+    after
 }

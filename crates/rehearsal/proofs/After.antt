@@ -24,7 +24,7 @@ use Rattle.host.specs.Host.{Left, refused, numbersOf}
 use Rattle.host.specs.declared.answers.Numbers.{Numbers}
 use Rattle.rehearsal.specs.Small.{WordsIn}
 use Rattle.rehearsal.specs.Rehearsal.{Function, new, write, add, accept, block, unblock, remove, track, start, pause, abort, newEpoch, reset, startToken}
-use Rattle.rehearsal.specs.Rehearsal.{dscan, dcheck, export, Operands, callOf, accepted, epochWord, loggedBy, Host, leftIn, after, run, AllOperands}
+use Rattle.rehearsal.specs.Rehearsal.{dscan, dcheck, export, restore, Operands, callOf, accepted, epochWord, loggedBy, Host, leftIn, after, run, AllOperands}
 use Rattle.rehearsal.specs.Promises.{isPlayed, givenBy, playedBy, own42, Answers}
 use Rattle.rehearsal.proofs.Small.{words-out}
 use Rattle.rehearsal.proofs.Gate.{formed-other}
@@ -54,13 +54,14 @@ module _ (h : Host) (w : history.World) (k : Tied h w) where
       log-same track = k .log ∙ no-start
       log-same start = cc (n, k .log, and-true (history.accepted e))
       log-same pause = k .log ∙ no-start
-      log-same abort = k .log ∙ no-start
+      log-same abort = k .log
       log-same newEpoch = k .log
       log-same reset = k .log
       log-same startToken = k .log
       log-same (dscan first count list budget) = k .log
       log-same (dcheck list budget) = k .log
       log-same (export list buffer stream resume info budget) = cc (n, l, b, epoch-read, k .log)
+      log-same (restore list info budget) = k .log
 
 -- a refusal with a code that is neither 0 nor 1 logs nothing
 refused-log : (code : ℕ) → eqb code codes.done ≡ false → eqb code codes.interrupted ≡ false → (left : Left) → left .answer .code ≡ code →
@@ -84,6 +85,7 @@ refused-log code z o left e (dcheck list budget) s log = refl
 refused-log code z o left e (export list buffer stream resume info budget) s log =
     let none : infoOf info .first - infoOf info .first ≡ 0 = omega arith in
     rw (e, z, o, none) (append-nil log)
+refused-log code z o left e (restore list info budget) s log = refl
 
 -- ---- one call
 

@@ -33,10 +33,12 @@ use Rattle.export.specs.Export.{macPages, exportCode, exportStep, begunBy, fini
 use Rattle.export.specs.declared.ExportAnswer.{ExportAnswer}
 use Rattle.export.proofs.Laws.{macs-few, export-ready}
 use Rattle.export.proofs.Moves.{exported}
-use Rattle.calls.specs.Calls.{scanNumbers, exportNumbers, effectOf}
+use Rattle.restore.specs.Restore.{endedAt, RestoreOutcome}
+use Rattle.restore.proofs.Moves.{restore-either}
+use Rattle.calls.specs.Calls.{scanNumbers, exportNumbers, listNumbers, effectOf}
 use Rattle.calls.specs.Promises.{named}
 use Rattle.calls.specs.declared.Call.{Call}
-use Rattle.calls.specs.declared.Call.the-variants.{New, OnPage, OnAll, OnSession, StartToken, Dscan, Dcheck, Export}
+use Rattle.calls.specs.declared.Call.the-variants.{New, OnPage, OnAll, OnSession, StartToken, Dscan, Dcheck, Export, Restore}
 use Rattle.calls.specs.declared.Returned.{Returned}
 use Rattle.wire.specs.Bytes.{Words}
 use Rattle.wire.specs.Promises.{Word}
@@ -112,7 +114,7 @@ module _ (s : Session) (t l b : List ℕ) (f : formed s (length t) ≡ true) (ht
   token-counted = omega (arith, way-most (tokenCode s t) t, formed-means s (length t) f .most)
 
   pub counted : (c : Call) → Counted (effectOf c s t l b .returned)
-  unfolding tokenOut exportOut
+  unfolding tokenOut exportOut endedAt infoBack
   counted (New created) = none _ _
   counted (OnPage page m) = none _ _
   counted (OnAll k) = none _ _
@@ -145,4 +147,8 @@ module _ (s : Session) (t l b : List ℕ) (f : formed s (length t) ≡ true) (ht
       either (λ (o : ExportOutcome). Counted (exportNumbers (o .answer)))
       (eqb (exportCode s (length t) (length l) (length b) stream resume (infoOf info)) 0)
       (λ e. export-counted s t l b stream resume info budget (eqb-true _ _ e))
+      (λ e. none _ _)
+  counted (Restore info budget) =
+      restore-either (λ (o : RestoreOutcome). Counted (listNumbers (o .answer))) s t l info budget
+      (λ e. record { page = lit< tt; next = lit< tt; first = lit< tt; last = lit< tt; info = info-lt _; errors = lit< tt; buffers = lit< tt })
       (λ e. none _ _)

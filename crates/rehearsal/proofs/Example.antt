@@ -1,7 +1,7 @@
 -- The rehearsal plays the history of `history`'s example, call by call as the bytes compute, so what is met there is met here.
 use mathlib.Core.Path.{_≡_, refl, sym, ap, ap₂, subst, _∙_}
 use mathlib.Core.Bool.{true}
-use mathlib.Core.List.{List}
+use mathlib.Core.List.{List, [], _∷_, _++_}
 use lib.Dec.{lit<}
 use Rattle.table.specs.Table.{legal}
 use Rattle.session.specs.Session.{newSession}
@@ -17,9 +17,9 @@ use Rattle.wire.specs.Bytes.{wordAt, wordsOf}
 use Rattle.wire.proofs.Promises.{reads-back, zeros-bytes}
 use Rattle.host.specs.Host.{played, hostOf}
 use Rattle.chirpsteeple.specs.Functions.{newLeft}
-use Rattle.rehearsal.specs.Rehearsal.{accepted, AllOperands, atEnd}
+use Rattle.rehearsal.specs.Rehearsal.{Function, accepted, AllOperands, atEnd}
 use Rattle.rehearsal.specs.Promises.{playedBy, unread}
-use Rattle.rehearsal.specs.Example.{session, table, toPause, toToken, moved, Met}
+use Rattle.rehearsal.specs.Example.{session, table, toAbort, again, live, paused, toPause, earning, toToken, moved, Met}
 use Rattle.rehearsal.proofs.Words.{zero-words, bytes-bytes}
 use Rattle.rehearsal.proofs.Plays.{playing, end-tied, granted-same}
 use Rattle.rehearsal.proofs.Paused.{there-paused}
@@ -30,11 +30,28 @@ new-accepted = refl
 
 -- ---- the operands
 
+-- of calls one after the other
+both : (l m : List Function) → AllOperands l → AllOperands m → AllOperands (l ++ m)
+both [] m a b = b
+both (f ∷ l) m a b = (a .0, both l m (a .1) b)
+
+abort-operands : AllOperands toAbort
+abort-operands = search (lit<, bytes-bytes, zeros-bytes)
+
+again-operands : AllOperands again
+again-operands = search (lit<, bytes-bytes, zeros-bytes)
+
+paused-operands : AllOperands paused
+paused-operands = search (lit<, bytes-bytes, zeros-bytes)
+
+earning-operands : AllOperands earning
+earning-operands = search (lit<, bytes-bytes, zeros-bytes)
+
 pause-operands : AllOperands toPause
-pause-operands = search (lit<, bytes-bytes, zeros-bytes)
+pause-operands = both live paused (both toAbort again abort-operands again-operands) paused-operands
 
 token-operands : AllOperands toToken
-token-operands = search (lit<, bytes-bytes, zeros-bytes)
+token-operands = both toPause earning pause-operands earning-operands
 
 -- ---- the history
 

@@ -1,4 +1,4 @@
--- The seventeen functions, one by one: each is `hostOf` of its call on what it is lent, and the operands that C's types give are words and bytes. What is
+-- The eighteen functions, one by one: each is `hostOf` of its call on what it is lent, and the operands that C's types give are words and bytes. What is
 -- proved of all of them is proved of `hostOf`.
 use mathlib.Core.Path.{_≡_, refl}
 use mathlib.Core.List.{List, []}
@@ -7,7 +7,7 @@ use Rattle.host.specs.Host.{Lent, lentAll, hostOf}
 use Rattle.wire.specs.Bytes.{Bytes}
 use Rattle.rehearsal.specs.Small.{CallWords}
 use Rattle.rehearsal.specs.Rehearsal.{Function, new, write, add, accept, block, unblock, remove, track, start, pause, abort, newEpoch, reset, startToken}
-use Rattle.rehearsal.specs.Rehearsal.{dscan, dcheck, export, Operands, leftBy, callOf}
+use Rattle.rehearsal.specs.Rehearsal.{dscan, dcheck, export, restore, Operands, leftBy, callOf}
 use Rattle.rehearsal.specs.Promises.{lentTo}
 use Rattle.rehearsal.proofs.Words.{no-bytes}
 
@@ -43,6 +43,7 @@ is-host startToken s t = record { left = refl; lent = refl }
 is-host (dscan first count list budget) s t = record { left = refl; lent = refl }
 is-host (dcheck list budget) s t = record { left = refl; lent = refl }
 is-host (export list buffer stream resume info budget) s t = record { left = refl; lent = refl }
+is-host (restore list info budget) s t = record { left = refl; lent = refl }
 
 pub record InC (f : Function) : Type 0 where
   pub call : CallWords (callOf f)
@@ -67,3 +68,4 @@ in-c startToken o = record { call = tt; list = no-bytes; buffer = no-bytes }
 in-c (dscan first count list budget) o = record { call = (o .0, o .1, o .3); list = o .2; buffer = no-bytes }
 in-c (dcheck list budget) o = record { call = o .1; list = o .0; buffer = no-bytes }
 in-c (export list buffer stream resume info budget) o = record { call = (o .2, o .4, o .5); list = o .0; buffer = o .1 }
+in-c (restore list info budget) o = record { call = (o .1, o .2); list = o .0; buffer = no-bytes }

@@ -1,10 +1,10 @@
 -- 40 is told exactly where the session is malformed: it is the code of the gate's first test, and of no other test and no run. New has no gate: it is told 40
 -- exactly where the table's length is illegal.
 use mathlib.Core.Path.{_≡_, refl, sym, ap, _∙_}
-use mathlib.Core.Bool.{Bool, true, false, not, _&&_, true≢false, false≢true}
+use mathlib.Core.Bool.{Bool, true, false, not, true≢false, false≢true}
 use mathlib.Core.List.{List, [], _∷_}
 use Prim.Native.Nat.{ℕ, _-_, _*_, _%_}
-use lib.Dec.{eqb, leb}
+use lib.Dec.{eqb}
 use lib.ListN.{length}
 use borrow.Author.Tests.{eq-eqb, ne-eqb, le-leb}
 use Rattle.words.specs.Codes as codes
@@ -12,41 +12,43 @@ use Rattle.words.specs.Info.{infoOf}
 use Rattle.refusals.specs.Refusals.{Test, _gives_, firstOf}
 use Rattle.refusals.proofs.Laws.{allCodes, first-all}
 use Rattle.page.specs.Page.{Page}
-use Rattle.page.specs.Moves.{isBlock, moveTests}
+use Rattle.page.specs.Moves.{moveTests}
 use Rattle.page.specs.declared.Clock.{Clock}
 use Rattle.page.specs.declared.moves.Move.{Move}
 use Rattle.page.specs.declared.moves.Move.the-variants.{Write, Add, Accept, Block, Unblock, Remove}
 use Rattle.page.specs.declared.sweeps.Sweep.{Sweep}
-use Rattle.page.specs.declared.sweeps.Sweep.the-variants.{Track, Start, Pause, Abort}
+use Rattle.page.specs.declared.sweeps.Sweep.the-variants.{Track, Start, Pause}
 use Rattle.table.specs.Table.{legal, mostPages, pageAt}
-use Rattle.session.specs.Session.{among, guest, moving, phasesOf}
+use Rattle.session.specs.Session.{among, moving, phasesOf}
 use Rattle.session.specs.Formed.{formed, within, fewestCreated, mostCreated, gated}
 use Rattle.session.specs.Outcome.{answered}
 use Rattle.session.specs.declared.Phase.{Phase}
-use Rattle.session.specs.declared.Phase.the-variants.{Live, Blackout}
+use Rattle.session.specs.declared.Phase.the-variants.{Idle, Live, Blackout}
 use Rattle.session.specs.declared.Session.{Session}
 use Rattle.session.proofs.FormedLaws.{formed-means}
-use Rattle.memory.specs.Memory.{newCode, newOut, pageTests}
+use Rattle.memory.specs.Memory.{newCode, newOut, turnTests, pageTests}
 use Rattle.memory.proofs.Laws.{page-code}
 use Rattle.migration.specs.Migration.{sweepWhen, stopsAt, stopped, sweepTests, sweepCode, onAll, aloneWhen, aloneTests, aloneCode, onSession}
 use Rattle.migration.specs.Token.{tokenTests, tokenCode, tokenOut}
 use Rattle.migration.specs.declared.Alone.{Alone}
-use Rattle.migration.specs.declared.Alone.the-variants.{NewEpoch, Reset}
+use Rattle.migration.specs.declared.Alone.the-variants.{NewEpoch, Reset, Abort}
 use Rattle.migration.proofs.Laws.{token-number}
 use Rattle.scan.specs.Scan.{ScanOutcome, dscanTests, dscanCode, dscanOf, dscanOut, dcheckTests, dcheckCode, dcheckOf, checkedBy, dcheckOut}
 use Rattle.scan.proofs.Outcomes.{OfScans, range-code, dscan-either, dchecked, dcheck-either}
 use Rattle.export.specs.Export.{exportTests, exportCode, ExportOutcome, exportOut}
 use Rattle.export.proofs.Moves.{exported, export-either, finished-code}
+use Rattle.restore.specs.Restore.{restoreAsks, restoreCode, RestoreOutcome, restoreRun, restoreOut}
+use Rattle.restore.proofs.Moves.{restore-either, ended-code}
 use Rattle.calls.specs.Calls.{effectOf}
 use Rattle.calls.specs.Promises.{isNew}
 use Rattle.calls.specs.declared.Call.{Call}
-use Rattle.calls.specs.declared.Call.the-variants.{New, OnPage, OnAll, OnSession, StartToken, Dscan, Dcheck, Export}
+use Rattle.calls.specs.declared.Call.the-variants.{New, OnPage, OnAll, OnSession, StartToken, Dscan, Dcheck, Export, Restore}
 
 -- ---- a malformed session
 
 module _ (s : Session) (t l b : List ℕ) (e : formed s (length t) ≡ false) where
   pub malformed-told : (c : Call) → isNew c ≡ false → effectOf c s t l b .returned .code ≡ codes.malformed
-  unfolding gated answered onAll sweepCode onSession aloneCode tokenOut tokenCode dscanOut dscanCode dcheckOut dcheckCode exportOut exportCode
+  unfolding gated answered onAll sweepCode onSession aloneCode tokenOut tokenCode dscanOut dscanCode dcheckOut dcheckCode exportOut exportCode restoreOut restoreCode
   malformed-told (New created) n = absurd (true≢false n)
   malformed-told (OnPage page m) n = page-code m s t page ∙ rw e
   malformed-told (OnAll k) n = rw e
@@ -55,6 +57,7 @@ module _ (s : Session) (t l b : List ℕ) (e : formed s (length t) ≡ false) wh
   malformed-told (Dscan first count budget) n = rw e
   malformed-told (Dcheck budget) n = rw e
   malformed-told (Export stream resume info budget) n = rw e
+  malformed-told (Restore info budget) n = rw e
 
 -- ---- a well-formed one
 
@@ -77,11 +80,11 @@ sweep-others : (k : Sweep) (s : Session) (stops : Bool) → allCodes other (swee
 sweep-others Track s stops = refl
 sweep-others Start s stops = refl
 sweep-others Pause s stops = refl
-sweep-others Abort s stops = refl
 
 alone-others : (k : Alone) (s : Session) → allCodes other (aloneTests k s) ≡ true
 alone-others NewEpoch s = refl
 alone-others Reset s = refl
+alone-others Abort s = refl
 
 scans-other : OfScans other
 scans-other = record { done = refl; interrupted = refl; full = refl; complete = refl; blocked = refl }
@@ -101,14 +104,10 @@ module _ (s : Session) (t l b : List ℕ) (e : formed s (length t) ≡ true) whe
   page-other : (m : Move) (at : ℕ) → other (firstOf (pageTests m s (length t) at (pageAt t at))) ≡ true
   page-other m at =
       rw e
-      (first-all other
-      ((isBlock m && among (Blackout ∷ []) (s .phase)) gives codes.blockingDisallowed
-      ∷ not (among guest (s .phase)) gives codes.opStateIncorrect
-      ∷ leb (s .fixed .pages) at gives codes.operandInvalid
-      ∷ moveTests m (pageAt t at) (s .clock)) refl (move-others m (pageAt t at) (s .clock)))
+      (first-all other (turnTests m (s .phase) (s .fixed .pages) (s .clock) at (pageAt t at)) refl (move-others m (pageAt t at) (s .clock)))
 
   call-other : (c : Call) → other (effectOf c s t l b .returned .code) ≡ true
-  unfolding newOut newCode answered onAll sweepCode onSession aloneCode tokenOut tokenCode dscanCode dcheckCode exportCode
+  unfolding newOut newCode answered onAll sweepCode onSession aloneCode tokenOut tokenCode dscanCode dcheckCode exportCode restoreCode
   call-other (New created) =
       rw (legal-of s (length t) e) (first-all other (not (within fewestCreated mostCreated created) gives codes.operandInvalid ∷ []) refl refl)
   call-other (OnPage page m) = ap other (page-code m s t page) ∙ page-other m page
@@ -128,6 +127,10 @@ module _ (s : Session) (t l b : List ℕ) (e : formed s (length t) ≡ true) whe
       export-either (λ (o : ExportOutcome). other (o .answer .code) ≡ true) s t l b stream resume info budget
       (finished-code other s stream (infoOf info) (exported s t l b stream info budget .at) refl refl)
       (gate-other moving (exportTests s (length l) (length b) stream resume (infoOf info)) refl)
+  call-other (Restore info budget) =
+      restore-either (λ (o : RestoreOutcome). other (o .answer .code) ≡ true) s t l info budget
+      (λ q. ended-code other (infoOf info) (restoreRun s t l (infoOf info) budget .at .next) refl refl)
+      (λ q. gate-other (Idle ∷ []) (restoreAsks (length l) (infoOf info)) refl)
 
   pub formed-other : (c : Call) → effectOf c s t l b .returned .code ≡ codes.malformed → ⊥
   formed-other c = never _ (call-other c)

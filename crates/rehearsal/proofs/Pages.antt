@@ -8,13 +8,13 @@ use Rattle.states.specs.States.{isIn}
 use Rattle.states.specs.Lists.{renewedStates}
 use Rattle.page.specs.Page.{Page, pageOf, recordFor, strange, onWords}
 use Rattle.page.specs.Moves.{movedBy}
-use Rattle.page.specs.Sweeps.{sweptBy}
+use Rattle.page.specs.Sweeps.{restored, sweptBy}
 use Rattle.page.specs.declared.Clock.{Clock}
 use Rattle.page.specs.declared.PageWords.{PageWords}
 use Rattle.page.specs.declared.moves.Move.{Move}
 use Rattle.page.specs.declared.moves.Move.the-variants.{Write, Add, Accept, Block, Unblock, Remove}
 use Rattle.page.specs.declared.sweeps.Sweep.{Sweep}
-use Rattle.page.specs.declared.sweeps.Sweep.the-variants.{Track, Start, Pause, Abort}
+use Rattle.page.specs.declared.sweeps.Sweep.the-variants.{Track, Start, Pause}
 use Rattle.table.specs.Table.{pageCount, wordsAt, sweepOf}
 use Rattle.scan.specs.Look.{looked, renewed, listedPage}
 use Rattle.entry.specs.Entry.{exportedPage}
@@ -55,7 +55,6 @@ pub sweep-keeps : (k : Sweep) → KeepsWord (sweptBy k)
 sweep-keeps Track p w = w
 sweep-keeps Start p w = w
 sweep-keeps Pause p w = w
-sweep-keeps Abort p w = w
 
 pub listed-keeps : (clock : Clock) → KeepsWord (listedPage clock)
 unfolding renewed
@@ -63,6 +62,9 @@ listed-keeps clock p w = either (λ (q : Page). Word (q .mark)) (isIn (looked p 
 
 pub exported-keeps : (epoch : ℕ) → KeepsWord (exportedPage epoch)
 exported-keeps epoch p w = w
+
+pub restored-keeps : KeepsWord restored
+restored-keeps p w = w
 
 -- ---- a sweep
 

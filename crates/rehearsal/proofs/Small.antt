@@ -1,5 +1,5 @@
 -- Words come out. A malformed session is refused, and everything stays; where it is well-formed the session that comes back is (`history`), so its numbers are
--- words. The other numbers are (`Counts`); table, list and buffer hold words by the moves of a page, a scan and an export.
+-- words. The other numbers are (`Counts`); table, list and buffer hold words by the moves of a page, a scan and the entries of a list.
 use mathlib.Core.Path.{_≡_, refl, sym, ap, subst}
 use mathlib.Core.Bool.{Bool, true, false}
 use mathlib.Core.List.{List, []}
@@ -26,13 +26,16 @@ use Rattle.migration.proofs.Laws.{all-either, alone-table}
 use Rattle.scan.specs.Scan.{ScanOutcome, dscanOf, dcheckOf}
 use Rattle.scan.proofs.Outcomes.{dscan-either, dcheck-either}
 use Rattle.lists.specs.Run.{standing}
+use Rattle.lists.specs.declared.Kind.the-variants as kind
 use Rattle.entry.specs.Entry.{groundOf}
 use Rattle.export.specs.Export.{begunBy, ExportOutcome}
 use Rattle.export.proofs.Moves.{export-either}
-use Rattle.calls.specs.Calls.{Effect, scanEffect, exportEffect, effectOf, effect}
+use Rattle.restore.specs.Restore.{begunAt, RestoreOutcome}
+use Rattle.restore.proofs.Moves.{restore-either}
+use Rattle.calls.specs.Calls.{Effect, scanEffect, exportEffect, restoreEffect, effectOf, effect}
 use Rattle.calls.specs.Promises.{refusal, isNew, Kept}
 use Rattle.calls.specs.declared.Call.{Call}
-use Rattle.calls.specs.declared.Call.the-variants.{New, OnPage, OnAll, OnSession, StartToken, Dscan, Dcheck, Export}
+use Rattle.calls.specs.declared.Call.the-variants.{New, OnPage, OnAll, OnSession, StartToken, Dscan, Dcheck, Export, Restore}
 use Rattle.calls.proofs.Codes.{answers-named}
 use Rattle.calls.proofs.Promises.{refusal-keeps}
 use Rattle.bundle.specs.Bundle.{nothing}
@@ -88,11 +91,17 @@ module _ (s : Session) (t l b : List ℕ) (ht : Words t) (hl : Words l) (hb : Wo
       (λ e. record { table = r .part; list = r .list; buffer = hb })
       (record { table = ht; list = hl; buffer = hb })
   lent-words (Export stream resume info budget) w =
-      let r = run-small (groundOf s) (infoOf info .last) budget (standing (begunBy (workOf s stream)) t l b)
+      let r = run-small kind.Export (groundOf s) (infoOf info .last) budget (standing (begunBy (workOf s stream)) t l b)
       (record { table = ht; list = hl; buffer = hb }) in
       export-either (λ (o : ExportOutcome). LentWords (exportEffect o)) s t l b stream resume info budget
       (record { table = r .table; list = r .list; buffer = r .buffer })
       (record { table = ht; list = hl; buffer = hb })
+  lent-words (Restore info budget) w =
+      let x = infoOf info in
+      let r = run-small kind.Restore (groundOf s) (x .last) budget (standing (begunAt x) t l []) (record { table = ht; list = hl; buffer = zero-words 0 }) in
+      restore-either (λ (o : RestoreOutcome). LentWords (restoreEffect o b)) s t l info budget
+      (λ e. record { table = r .table; list = r .list; buffer = hb })
+      (λ e. record { table = ht; list = hl; buffer = hb })
 
 -- ---- all of it
 
@@ -176,6 +185,7 @@ module _ (s : Session) (t l b : List ℕ) (hs : SessionWords s) (ht : Words t) (
   small (Dscan first count budget) w = gated-words (Dscan first count budget) refl w
   small (Dcheck budget) w = gated-words (Dcheck budget) refl w
   small (Export stream resume info budget) w = gated-words (Export stream resume info budget) refl w
+  small (Restore info budget) w = gated-words (Restore info budget) refl w
 
 pub words-out : (c : Call) (s : Session) (t l b : List ℕ) → WordsIn c s t l b → WordsOut (effectOf c s t l b)
 words-out c s t l b h = small s t l b (h .session) (h .table) (h .list) (h .buffer) c (h .call)

@@ -22,7 +22,7 @@ use Rattle.memory.specs.Memory.{newCode, newOut}
 use Rattle.calls.specs.Calls.{Effect, effectOf}
 use Rattle.calls.specs.Promises.{refusal, isNew}
 use Rattle.calls.specs.declared.Call.{Call}
-use Rattle.calls.specs.declared.Call.the-variants.{New, OnPage, OnAll, OnSession, StartToken, Dscan, Dcheck, Export}
+use Rattle.calls.specs.declared.Call.the-variants.{New, OnPage, OnAll, OnSession, StartToken, Dscan, Dcheck, Export, Restore}
 use Rattle.calls.specs.declared.Returned.{Returned}
 use Rattle.calls.proofs.Promises.{refusal-keeps}
 use Rattle.history.specs.History as history
@@ -137,6 +137,7 @@ module _ (h : Host) (w : history.World) (k : Tied h w) (f : Function) where
   engine-is (Dscan first count budget) = engine-reads (Dscan first count budget) refl
   engine-is (Dcheck budget) = engine-reads (Dcheck budget) refl
   engine-is (Export stream resume info budget) = engine-reads (Export stream resume info budget) refl
+  engine-is (Restore info budget) = engine-reads (Restore info budget) refl
 
   -- in words, all bytes are the engine's: a refusal keeps what came, of which the bytes are those
   pub played-engines : InC f → isPlayed f ≡ true → Engines effect (leftIn h f)

@@ -13,8 +13,8 @@ use Rattle.wire.specs.Bytes.{bytesOf}
 use Rattle.host.specs.Host.{sessionBytes}
 use Rattle.chirpsteeple.specs.Functions.{newLeft}
 use Rattle.rehearsal.specs.Small.{WordsIn}
-use Rattle.rehearsal.specs.Rehearsal.{Function, write, add, accept, block, remove, track, start, pause, newEpoch, reset, startToken, dscan, dcheck}
-use Rattle.rehearsal.specs.Rehearsal.{export, Operands, accepted, AllOperands, Rehearsal, atEnd}
+use Rattle.rehearsal.specs.Rehearsal.{Function, write, add, accept, block, remove, track, start, pause, abort, newEpoch, reset, startToken, dscan, dcheck}
+use Rattle.rehearsal.specs.Rehearsal.{export, restore, Operands, accepted, AllOperands, Rehearsal, atEnd}
 use Rattle.rehearsal.specs.Driver.{granted, Paused}
 use Rattle.rehearsal.specs.Promises.{isPlayed}
 
@@ -33,8 +33,9 @@ zeros n = replicate (8 * n) 0
 abbrev pub noList : Function
 noList = dcheck (replicate 7 0) 1
 
-abbrev pub live : List Function
-live =
+-- exported, aborted, and a page written
+abbrev pub toAbort : List Function
+toAbort =
     add 0
     ∷ accept 0
     ∷ write 0 7
@@ -42,6 +43,19 @@ live =
     ∷ accept 1
     ∷ write 1 8
     ∷ add 2
+    ∷ start
+    ∷ dscan 0 4 (zeros 4) 10
+    ∷ track
+    ∷ export (bytesOf scanned) (zeros 3) 0 0 (upTo 2 0) 5
+    ∷ abort
+    ∷ write 0 6
+    ∷ []
+
+-- restored in two calls, and started again
+abbrev pub again : List Function
+again =
+    restore (bytesOf scanned) (upTo 2 0) 1
+    ∷ restore (bytesOf scanned) (upTo 2 1) 5
     ∷ start
     ∷ dscan 0 4 (zeros 4) 10
     ∷ write 0 9
@@ -54,11 +68,20 @@ live =
     ∷ remove 0
     ∷ []
 
+abbrev pub live : List Function
+live = toAbort ++ again
+
+abbrev pub paused : List Function
+paused = pause ∷ startToken ∷ noList ∷ []
+
 abbrev pub toPause : List Function
-toPause = live ++ (pause ∷ startToken ∷ noList ∷ [])
+toPause = live ++ paused
+
+abbrev pub earning : List Function
+earning = reset ∷ dcheck (zeros 4) 10 ∷ newEpoch ∷ export (bytesOf left) (zeros 2) 0 0 (upTo 1 0) 5 ∷ []
 
 abbrev pub toToken : List Function
-toToken = toPause ++ (reset ∷ dcheck (zeros 4) 10 ∷ newEpoch ∷ export (bytesOf left) (zeros 2) 0 0 (upTo 1 0) 5 ∷ [])
+toToken = toPause ++ earning
 
 -- the rehearsal of some calls, `chirp_new` being accepted
 abbrev pub moved : accepted (newLeft session table 3) ≡ true → (calls : List Function) → AllOperands calls → Rehearsal

@@ -18,7 +18,7 @@ use Rattle.wire.specs.Sessions.{sessionLength, sessionOf, sessionWords}
 use Rattle.host.specs.Host.{Lent, lentAll, lentList, lent, Left, inWords, refused, numbersOf}
 use Rattle.chirpsteeple.specs.Functions.{newLeft}
 use Rattle.rehearsal.specs.Rehearsal.{Function, new, write, add, accept, block, unblock, remove, track, start, pause, abort, newEpoch, reset, startToken}
-use Rattle.rehearsal.specs.Rehearsal.{dscan, dcheck, export, Operands, callOf, Host, leftIn, Rehearsal, atEnd}
+use Rattle.rehearsal.specs.Rehearsal.{dscan, dcheck, export, restore, Operands, callOf, Host, leftIn, Rehearsal, atEnd}
 use Rattle.rehearsal.specs.Driver.{granted, Paused, check, driven}
 
 -- ---- the history that a rehearsal plays
@@ -42,6 +42,7 @@ lentTo startToken s t = lent s t
 lentTo (dscan first count list budget) s t = lentList s t list
 lentTo (dcheck list budget) s t = lentList s t list
 lentTo (export list buffer stream resume info budget) s t = lentAll s t list buffer resume
+lentTo (restore list info budget) s t = lentList s t list
 
 -- list and buffer are in whole words, 512 at most, and resume is 0 or 1: else the C side refuses it, and there is no such call of the engine
 abbrev pub isPlayed : Function → Bool

@@ -1,4 +1,4 @@
--- Rehearsals of a C host: an accepted `chirp_new`, and then any calls of the seventeen functions with any operands and any list and buffer bytes, each given
+-- Rehearsals of a C host: an accepted `chirp_new`, and then any calls of the eighteen functions with any operands and any list and buffer bytes, each given
 -- the session and table bytes that the one before left. What the host notes beside them it reads out of operands, answers and returned bytes alone.
 use mathlib.Core.Path.{_≡_}
 use mathlib.Core.Bool.{Bool, true, cond}
@@ -19,9 +19,9 @@ use Rattle.wire.specs.Bytes.{wordsOf, Bytes}
 use Rattle.wire.specs.Promises.{Word}
 use Rattle.host.specs.Host.{Left}
 use Rattle.chirpsteeple.specs.Functions.{newLeft, writeLeft, addLeft, acceptLeft, blockLeft, unblockLeft, removeLeft, trackLeft, startLeft, pauseLeft}
-use Rattle.chirpsteeple.specs.Functions.{abortLeft, newEpochLeft, resetLeft, tokenLeft, dscanLeft, dcheckLeft, exportLeft}
+use Rattle.chirpsteeple.specs.Functions.{abortLeft, newEpochLeft, resetLeft, tokenLeft, dscanLeft, dcheckLeft, exportLeft, restoreLeft}
 
--- ---- the seventeen functions
+-- ---- the eighteen functions
 
 -- each with its operands behind session and table, in the order of the header; lists and buffers are bytes
 pub data Function : Type 0 where
@@ -32,6 +32,7 @@ pub data Function : Type 0 where
   dscan : (first count : ℕ) (list : List ℕ) (budget : ℕ) → Function
   dcheck : (list : List ℕ) (budget : ℕ) → Function
   export : (list buffer : List ℕ) (stream resume info budget : ℕ) → Function
+  restore : (list : List ℕ) (info budget : ℕ) → Function
 
 -- what C's types give: numbers of 64 bits, and bytes
 abbrev pub Operands : Function → Type 0
@@ -52,6 +53,7 @@ Operands startToken = Unit
 Operands (dscan first count list budget) = Word first × Word count × Bytes list × Word budget
 Operands (dcheck list budget) = Bytes list × Word budget
 Operands (export list buffer stream resume info budget) = Bytes list × Bytes buffer × Word stream × Word resume × Word info × Word budget
+Operands (restore list info budget) = Bytes list × Word info × Word budget
 
 -- what each leaves of session and table bytes: the definitions that the exported functions' contracts cite
 abbrev pub leftBy : Function → List ℕ → List ℕ → Left
@@ -72,6 +74,7 @@ leftBy startToken s t = tokenLeft s t
 leftBy (dscan first count list budget) s t = dscanLeft s t first count list budget
 leftBy (dcheck list budget) s t = dcheckLeft s t list budget
 leftBy (export list buffer stream resume info budget) s t = exportLeft s t list buffer stream resume info budget
+leftBy (restore list info budget) s t = restoreLeft s t list info budget
 
 -- the call that each stands for
 abbrev pub callOf : Function → Call
@@ -85,13 +88,14 @@ callOf (remove page) = call.OnPage page move.Remove
 callOf track = call.OnAll sweep.Track
 callOf start = call.OnAll sweep.Start
 callOf pause = call.OnAll sweep.Pause
-callOf abort = call.OnAll sweep.Abort
+callOf abort = call.OnSession alone.Abort
 callOf newEpoch = call.OnSession alone.NewEpoch
 callOf reset = call.OnSession alone.Reset
 callOf startToken = call.StartToken
 callOf (dscan first count list budget) = call.Dscan first count budget
 callOf (dcheck list budget) = call.Dcheck budget
 callOf (export list buffer stream resume info budget) = call.Export stream (eqb resume 1) info budget
+callOf (restore list info budget) = call.Restore info budget
 
 abbrev pub accepted : Left → Bool
 accepted left = eqb (left .answer .code) codes.done
@@ -129,6 +133,7 @@ loggedBy startToken s left log = log
 loggedBy (dscan first count list budget) s left log = log
 loggedBy (dcheck list budget) s left log = log
 loggedBy (export list buffer stream resume info budget) s left log = log ++ sentBetween s left info
+loggedBy (restore list info budget) s left log = log
 
 -- ---- rehearsals
 

@@ -9,7 +9,7 @@ use Rattle.session.specs.Session.{streamPlaces}
 use Rattle.session.specs.declared.Session.{Session}
 use Rattle.calls.specs.Calls.{Effect, effectOf}
 use Rattle.calls.specs.declared.Call.{Call}
-use Rattle.calls.specs.declared.Call.the-variants.{New, OnPage, OnAll, OnSession, StartToken, Dscan, Dcheck, Export}
+use Rattle.calls.specs.declared.Call.the-variants.{New, OnPage, OnAll, OnSession, StartToken, Dscan, Dcheck, Export, Restore}
 use Rattle.calls.specs.declared.Returned.{Returned}
 use Rattle.wire.specs.Bytes.{wordsOf, bytesOf, Words}
 use Rattle.wire.specs.Sessions.{sessionOf, sessionWords}
@@ -33,6 +33,7 @@ CallWords StartToken = Unit
 CallWords (Dscan first count budget) = Word first × Word count × Word budget
 CallWords (Dcheck budget) = Word budget
 CallWords (Export stream resume info budget) = Word stream × Word info × Word budget
+CallWords (Restore info budget) = Word info × Word budget
 
 -- a session whose numbers are words, with its eight streams
 pub record SessionWords (s : Session) : Type 0 where

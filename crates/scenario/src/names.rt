@@ -72,6 +72,8 @@ pub(crate) const RESET: u64 = 0x72_65_73_65_74;
 
 pub(crate) const EXPORT: u64 = 0x65_78_70_6f_72_74;
 
+pub(crate) const RESTORE: u64 = 0x72_65_73_74_6f_72_65;
+
 pub(crate) const TOKEN: u64 = 0x74_6f_6b_65_6e;
 
 // What prints words of a space: the table's, the list's, the buffer's.

@@ -43,7 +43,7 @@ pub(crate) fn order_of(l: Line) -> Order {
         names::TRACK => on_all(Sweep::Track),
         names::START => on_all(Sweep::Start),
         names::PAUSE => on_all(Sweep::Pause),
-        names::ABORT => on_all(Sweep::Abort),
+        names::ABORT => on_session(Alone::Abort),
         names::NEWEPOCH => on_session(Alone::NewEpoch),
         names::DSCAN => Order::Call(Call::Dscan {
             first: page,
@@ -59,6 +59,10 @@ pub(crate) fn order_of(l: Line) -> Order {
             resume: second != 0,
             info: l.third,
             budget: l.fourth,
+        }),
+        names::RESTORE => Order::Call(Call::Restore {
+            info: first,
+            budget: second,
         }),
         names::TOKEN => Order::Call(Call::StartToken),
         names::PHASE

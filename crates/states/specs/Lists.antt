@@ -49,25 +49,13 @@ removes = Blocked ⇒ Free ∷ PendingBlocked ⇒ Free ∷ ExportedBlocked ⇒ E
 abbrev pub startableStates : List State
 startableStates = Free ∷ Blocked ∷ Pending ∷ PendingBlocked ∷ Mapped ∷ []
 
--- start and abort: stamp 0 except in 1 and 3
+-- start and RESTORE: stamp 0 except in 1 and 3
 abbrev pub stampedStates : List State
 stampedStates = Blocked ∷ PendingBlocked ∷ []
 
 -- pause: any of 1, 3, 26, 31 is 48
 abbrev pub blockedStates : List State
 blockedStates = Blocked ∷ PendingBlocked ∷ ExportedBlocked ∷ PendingExportedBlocked ∷ []
-
--- abort: 24, 25→4; 29, 30→2; 26→1; 31→3; 27→0
-abbrev pub aborts : List Change
-aborts =
-    Exported ⇒ Mapped
-    ∷ ExportedModified ⇒ Mapped
-    ∷ PendingExported ⇒ Pending
-    ∷ PendingExportedModified ⇒ Pending
-    ∷ ExportedBlocked ⇒ Blocked
-    ∷ PendingExportedBlocked ⇒ PendingBlocked
-    ∷ ExportedRemoved ⇒ Free
-    ∷ []
 
 -- start token: 53 for 25, 26, 27, 30, 31
 abbrev pub changedStates : List State
@@ -150,3 +138,22 @@ operated =
 -- data pages are those exported from 4 or 25
 abbrev pub dataStates : List State
 dataStates = Mapped ∷ ExportedModified ∷ []
+
+-- ---- RESTORE
+
+-- 24 to 27 and 29 to 31, which an abort leaves: 4 in any other, or strange; and in these, while Idle, the calls on memory are 45
+abbrev pub leftStates : List State
+leftStates =
+    Exported ∷ ExportedModified ∷ ExportedBlocked ∷ ExportedRemoved ∷ PendingExported ∷ PendingExportedModified ∷ PendingExportedBlocked ∷ []
+
+-- 24, 25→4; 29, 30→2; 26→1; 31→3; 27→0
+abbrev pub restores : List Change
+restores =
+    Exported ⇒ Mapped
+    ∷ ExportedModified ⇒ Mapped
+    ∷ PendingExported ⇒ Pending
+    ∷ PendingExportedModified ⇒ Pending
+    ∷ ExportedBlocked ⇒ Blocked
+    ∷ PendingExportedBlocked ⇒ PendingBlocked
+    ∷ ExportedRemoved ⇒ Free
+    ∷ []

@@ -8,8 +8,8 @@ ghost use mathlib.Core.Bool.{cond};
 ghost use Rattle.states.specs.States.{stateOf, isStrange, isIn, numberBy, numberIn};
 ghost use Rattle.states.specs.Lists.{writableStates, landingStates, startableStates, stampedStates, blockedStates, changedStates, sentStates};
 ghost use Rattle.states.specs.Lists.{unsentStates};
-ghost use Rattle.states.specs.Lists.{pendingStates, listedStates, renewedStates, barredStates, cancelledStates, dataStates};
-ghost use Rattle.states.specs.Lists.{adds, accepts, blocks, unblocks, removes, aborts, looks, exports, hinted, operated};
+ghost use Rattle.states.specs.Lists.{pendingStates, listedStates, renewedStates, barredStates, cancelledStates, dataStates, leftStates};
+ghost use Rattle.states.specs.Lists.{adds, accepts, blocks, unblocks, removes, looks, exports, restores, hinted, operated};
 ghost use Rattle.states.specs.Masks.{inMask, packedAt};
 use words::hints;
 use words::operations;
@@ -71,7 +71,7 @@ pub fn is_startable(n: u8) -> bool
     )
 }
 
-// Its stamp outlives a start or an abort.
+// Its stamp outlives a start or a RESTORE.
 pub fn is_stamped(n: u8) -> bool
     ensures { λ r. ⌜ r ≡ isIn (stateOf n) stampedStates ⌝ }
 {
@@ -181,6 +181,22 @@ pub fn is_data(n: u8) -> bool
     is_in(bit::MAPPED | bit::EXPORTED_MODIFIED, n)
 }
 
+// A migration left it so: RESTORE takes it back.
+pub fn is_left(n: u8) -> bool
+    ensures { λ r. ⌜ r ≡ isIn (stateOf n) leftStates ⌝ }
+{
+    is_in(
+        bit::EXPORTED
+            | bit::EXPORTED_MODIFIED
+            | bit::EXPORTED_BLOCKED
+            | bit::EXPORTED_REMOVED
+            | bit::PENDING_EXPORTED
+            | bit::PENDING_EXPORTED_MODIFIED
+            | bit::PENDING_EXPORTED_BLOCKED,
+        n,
+    )
+}
+
 // ---- where each call takes a state: the number stays where the call has no move for it
 
 // `to` for the numbers of a mask.
@@ -253,26 +269,6 @@ pub fn remove_of(n: u8) -> u8
     )
 }
 
-pub fn abort_of(n: u8) -> u8
-    ensures { λ r. ⌜ r ≡ numberBy aborts n ⌝ }
-{
-    let to = pick(bit::EXPORTED | bit::EXPORTED_MODIFIED, n, states::MAPPED, n);
-    let to = pick(
-        bit::PENDING_EXPORTED | bit::PENDING_EXPORTED_MODIFIED,
-        n,
-        states::PENDING,
-        to,
-    );
-    let to = pick(bit::EXPORTED_BLOCKED, n, states::BLOCKED, to); // blocked outside a migration
-    let to = pick(
-        bit::PENDING_EXPORTED_BLOCKED,
-        n,
-        states::PENDING_BLOCKED,
-        to,
-    );
-    pick(bit::EXPORTED_REMOVED, n, states::FREE, to)
-}
-
 pub fn look_of(n: u8) -> u8
     ensures { λ r. ⌜ r ≡ numberBy looks n ⌝ }
 {
@@ -296,6 +292,26 @@ pub fn export_of(n: u8) -> u8
         to,
     );
     let to = pick(bit::EXPORTED_BLOCKED, n, states::BLOCKED, to); // cancelled, and still the guest's
+    let to = pick(
+        bit::PENDING_EXPORTED_BLOCKED,
+        n,
+        states::PENDING_BLOCKED,
+        to,
+    );
+    pick(bit::EXPORTED_REMOVED, n, states::FREE, to)
+}
+
+pub fn restore_of(n: u8) -> u8
+    ensures { λ r. ⌜ r ≡ numberBy restores n ⌝ }
+{
+    let to = pick(bit::EXPORTED | bit::EXPORTED_MODIFIED, n, states::MAPPED, n);
+    let to = pick(
+        bit::PENDING_EXPORTED | bit::PENDING_EXPORTED_MODIFIED,
+        n,
+        states::PENDING,
+        to,
+    );
+    let to = pick(bit::EXPORTED_BLOCKED, n, states::BLOCKED, to); // blocked outside a migration
     let to = pick(
         bit::PENDING_EXPORTED_BLOCKED,
         n,

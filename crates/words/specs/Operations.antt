@@ -12,3 +12,7 @@ cancel = 2
 
 abbrev pub remigrate : ℕ
 remigrate = 3
+
+-- in a list for RESTORE
+abbrev pub restore : ℕ
+restore = 1

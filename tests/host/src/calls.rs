@@ -25,7 +25,7 @@ impl Call {
         match word {
             "export" => 4,
             "dscan" => 3,
-            "write" => 2,
+            "write" | "restore" => 2,
             "new" | "add" | "accept" | "block" | "unblock" | "remove" | "dcheck" => 1,
             _ => 0,
         }
@@ -97,6 +97,7 @@ macro_rules! made_by {
             "dcheck" => $functions::dcheck(session, table, list, a).into(),
             "reset" => $functions::reset(session, table).into(),
             "export" => $functions::export(session, table, list, buffer, a, b, c, d).into(),
+            "restore" => $functions::restore(session, table, list, a, b).into(),
             "token" => $functions::start_token(session, table).into(),
             word => panic!("{word} is no call"),
         }

@@ -59,8 +59,8 @@ impl<'a> Comparison<'a> {
         let answer = FromDocument.call(call, lent);
         let found = self.compared.call(call, &mut other);
         self.met.call(call.word, &answer);
-        if let ("export", Some(list)) = (call.word, bytes::words(&lent.list)) {
-            self.met.export(call.numbers[2], &answer, &list);
+        if let Some(list) = bytes::words(&lent.list) {
+            self.met.entries(call.word, &call.numbers, &answer, &list);
         }
         self.reached.call(call, &before, &answer);
         let differing = differing([&before, lent, &other], &answer, &found);

@@ -1,6 +1,7 @@
 //! Migrations as a driver makes them, from New to the token, with a guest that goes on meanwhile; strays come between its calls.
 
 mod exports;
+mod restores;
 
 use crate::calls::{Call, Lent};
 use crate::comparison::{Comparison, Difference};
@@ -112,6 +113,9 @@ impl Driver<'_, '_> {
     fn idle(&mut self) -> Result<(), Difference> {
         self.running = Default::default();
         self.guest()?;
+        if !self.random.one_in(4) {
+            self.restore_what_is_left()?;
+        }
         if self.random.one_in(2) {
             self.call("start", &[])?;
             if self.session().phase == Phase::Live && self.random.one_in(4) {
@@ -175,9 +179,14 @@ impl Driver<'_, '_> {
     }
 
     fn blocked(&self) -> Vec<u64> {
+        self.pages_in(|state| matches!(state, 1 | 3 | 26 | 31))
+    }
+
+    /// The pages in these states, strange ones apart.
+    fn pages_in(&self, states: impl Fn(u64) -> bool) -> Vec<u64> {
         let table = bytes::words(&self.lent.table).unwrap();
-        let blocked = |record: Option<Record>| matches!(record, Some(Record { state: 1 | 3 | 26 | 31, .. }));
-        (0..).zip(records(&table)).filter(|(_, record)| blocked(*record)).map(|(page, _)| page).collect()
+        let found = |record: Option<Record>| record.map_or(false, |record| states(record.state));
+        (0..).zip(records(&table)).filter(|(_, record)| found(*record)).map(|(page, _)| page).collect()
     }
 
     fn blackout(&mut self) -> Result<(), Difference> {

@@ -1,6 +1,7 @@
 //! Random histories over small guests, from New on and by calls alone. Some know their trade, and some are wild; few pages, so that the same page is met again and again, and tokens are frequent.
 
 mod lists;
+mod restores;
 
 use crate::earn::{earn, Rooms};
 use crate::play::{Broken, Guest, Play};
@@ -108,8 +109,9 @@ impl<'a, 'b> History<'a, 'b> {
     }
 
     fn idle(&mut self) -> Result<(), Broken> {
-        match self.random.below(4) {
-            0 => self.call("start", &[]).map(drop),
+        match self.random.below(8) {
+            0 | 1 => self.call("start", &[]).map(drop),
+            2 | 3 if !self.left().is_empty() => self.come_back(),
             _ => self.guest_call(),
         }
     }

@@ -2,7 +2,7 @@
 
 use crate::calls::{Call, Lent};
 use crate::comparison::{Comparison, Difference};
-use crate::strays::{any_call, new_lists, put};
+use crate::strays::{any_call, new_lists, put, whole_list};
 use chirpsteeple_tests::bench::session::{Phase, Session};
 use chirpsteeple_tests::histories::any::{record, well_formed};
 use chirpsteeple_tests::random::Random;
@@ -24,7 +24,7 @@ pub fn handed(comparison: &mut Comparison, random: &mut Random) -> Result<(), Di
         put(&mut lent.table, 2 * page, record(random, &session));
     }
     new_lists(random, &mut lent);
-    for call in over_all_pages(session.phase, pages) {
+    for call in over_all_pages(session.phase, pages, &lent) {
         comparison.call(call, &mut lent.clone())?;
     }
     for _ in 0..4 {
@@ -35,14 +35,15 @@ pub fn handed(comparison: &mut Comparison, random: &mut Random) -> Result<(), Di
     Ok(())
 }
 
-/// The calls that look at every page: the one by which the phase is left, and the scan that it has.
-fn over_all_pages(phase: Phase, pages: u64) -> Vec<Call> {
+/// The calls that look at every page: the one by which the phase is left, and the scan that it has; in Idle a restore of the list.
+fn over_all_pages(phase: Phase, pages: u64, lent: &Lent) -> Vec<Call> {
     let leaving = match phase {
         Phase::Idle => "start",
         Phase::Live => "pause",
         Phase::Blackout | Phase::Done => "token",
     };
     let scan = match phase {
+        Phase::Idle => Call::new("restore", &[whole_list(lent), u64::MAX]),
         Phase::Live => Call::new("dscan", &[0, pages, u64::MAX]),
         _ => Call::new("dcheck", &[u64::MAX]),
     };

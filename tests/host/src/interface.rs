@@ -1,4 +1,4 @@
-//! The archive's seventeen functions, as C declares them.
+//! The archive's eighteen functions, as C declares them.
 
 use chirpsteeple_tests::bench::Answer;
 use std::marker::PhantomData;
@@ -29,6 +29,13 @@ pub struct ExportAnswer {
     pub buffers: u64,
 }
 
+#[repr(C)]
+#[derive(Clone, Copy, Debug, Default, PartialEq, Eq)]
+pub struct ListAnswer {
+    pub code: u64,
+    pub info: u64,
+}
+
 impl From<TokenAnswer> for Answer {
     fn from(TokenAnswer { code, page }: TokenAnswer) -> Answer {
         Answer { code, page, ..Answer::default() }
@@ -44,6 +51,12 @@ impl From<ScanAnswer> for Answer {
 impl From<ExportAnswer> for Answer {
     fn from(ExportAnswer { code, info, errors, buffers }: ExportAnswer) -> Answer {
         Answer { code, info, errors, buffers, ..Answer::default() }
+    }
+}
+
+impl From<ListAnswer> for Answer {
+    fn from(ListAnswer { code, info }: ListAnswer) -> Answer {
+        Answer { code, info, ..Answer::default() }
     }
 }
 
@@ -107,11 +120,12 @@ functions! {
     track is chirp_track(mut session, mut table;) -> u64;
     start is chirp_start(mut session, mut table;) -> u64;
     pause is chirp_pause(mut session, mut table;) -> u64;
-    abort is chirp_abort(mut session, mut table;) -> u64;
+    abort is chirp_abort(mut session, const table;) -> u64;
     new_epoch is chirp_new_epoch(mut session, const table;) -> u64;
     reset is chirp_reset(mut session, const table;) -> u64;
     start_token is chirp_start_token(mut session, const table;) -> TokenAnswer;
     dscan is chirp_dscan(const session, mut table; first, count; list; budget) -> ScanAnswer;
     dcheck is chirp_dcheck(mut session, mut table, mut list; budget) -> ScanAnswer;
     export is chirp_export(mut session, mut table, mut list, mut buffer; stream, resume, info, budget) -> ExportAnswer;
+    restore is chirp_restore(const session, mut table, mut list; info, budget) -> ListAnswer;
 }

@@ -3,12 +3,13 @@
 use crate::earn::{earn, Rooms};
 use crate::guests::History;
 use crate::play::{Broken, Guest, Play};
+use chirpsteeple_tests::bench::session::Phase;
 use chirpsteeple_tests::bench::{LAST_EPOCH, MOST_WORDS};
 use chirpsteeple_tests::random::Random;
 
 const PAGES: u64 = MOST_WORDS as u64 / 2;
 
-/// A guest of 4,096 pages that is paused at once, and again with much of it exported and some of that changed. From both the token is earned, and at most eight lists are needed with full rooms.
+/// A guest of 4,096 pages that is paused at once, again with much of it exported and some of that changed, and again when that was aborted and has begun anew. From each the token is earned, and at most eight lists are needed with full rooms.
 pub fn most_pages(play: &mut Play, seed: u64) -> Result<(), Broken> {
     let random = &mut Random::new(seed);
     let absent = random.pick(&[5, 1 << 32]);
@@ -18,6 +19,11 @@ pub fn most_pages(play: &mut Play, seed: u64) -> Result<(), Broken> {
     history.pause_and_earn()?;
     history.sweep()?;
     (0..400).try_for_each(|_| history.guest_call())?;
+    history.pause_and_earn()?;
+    history.call("abort", &[])?;
+    while history.guest.session().phase == Phase::Idle {
+        history.come_back()?;
+    }
     history.pause_and_earn()
 }
 

@@ -1,4 +1,4 @@
-//! Lists of every length, each filled by a scan and exported as far as it goes.
+//! Lists of every length, each filled by a scan, exported as far as it goes, and restored after an abort.
 
 use crate::calls::{Call, Lent};
 use crate::comparison::{Comparison, Difference};
@@ -21,6 +21,8 @@ pub fn lists_of_every_length(comparison: &mut Comparison) -> Result<(), Differen
             let [_, _, _, _, last] = INFO;
             let info = last.with(0, length.saturating_sub(1) as u64);
             comparison.call(Call::new("export", &[0, 0, info, PAGES]), &mut lent)?;
+            comparison.call(Call::new("abort", &[]), &mut lent)?;
+            comparison.call(Call::new("restore", &[info, PAGES]), &mut lent)?;
         }
     }
     Ok(())

@@ -2,20 +2,22 @@
 
 use crate::calls::{Call, Lent};
 use chirpsteeple_tests::bench::codes::{DONE, MALFORMED};
+use chirpsteeple_tests::bench::lists::part;
 use chirpsteeple_tests::bench::session::{Phase, Stream};
 use chirpsteeple_tests::bench::{Answer, LAST_EPOCH, MOST_ENTRIES, MOST_WORDS};
 use chirpsteeple_tests::host::bytes;
 
-const PLACES: [&str; 10] = [
+const PLACES: [&str; 11] = [
     "migrations brought to the token by a driver",
     "tokens granted",
     "calls in Done",
     "calls done with several streams interrupted",
     "exports that ended after interruptions",
+    "restores that went on behind the first entry",
     "calls done at TLB epoch 65,535",
     "calls done at migration epoch 65,535",
     "calls done on 4,096 pages",
-    "scans and exports done with a list of 512",
+    "scans and calls by list done with 512 entries",
     "lists and buffers not in whole words",
 ];
 
@@ -36,14 +38,16 @@ impl Reached {
         };
         let done = answer.code < MALFORMED;
         let interrupted = session.streams.iter().filter(|&&stream| stream != Stream::AtRest).count();
-        let lists = matches!(call.word, "dscan" | "dcheck" | "export");
+        let lists = matches!(call.word, "dscan" | "dcheck" | "export" | "restore");
         let resumed = call.word == "export" && call.numbers[1] == 1;
+        let went_on = call.word == "restore" && part(call.numbers[0]).0 > 0;
         let places = [
             false,
             call.word == "token" && answer.code == DONE,
             session.phase == Phase::Done,
             done && interrupted > 1,
             resumed && answer.code == DONE,
+            went_on && answer.code == DONE,
             done && session.tlb == LAST_EPOCH,
             done && session.epoch == LAST_EPOCH,
             done && lent.table.len() == MOST_WORDS * bytes::WORD,

@@ -1,7 +1,7 @@
 //! The destination: what it holds once the log was replayed, and what it must hold when the token was granted.
 
 use crate::watcher::{state, word, Contents, Entry, Watcher};
-use chirpsteeple_tests::bench::export::operation::{CANCEL, MIGRATE, REMIGRATE};
+use chirpsteeple_tests::bench::lists::operation::{CANCEL, MIGRATE, REMIGRATE};
 use chirpsteeple_tests::random::Random;
 
 /// In so many orders each log is replayed.

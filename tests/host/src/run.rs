@@ -23,7 +23,7 @@ pub fn seeds() -> u64 {
 
 const LINES: usize = 2_000;
 const MIGRATIONS: usize = 6;
-const HANDED: usize = 100;
+const HANDED: usize = 90;
 
 pub fn run(comparison: &mut Comparison, seed: u64) -> Result<(), Difference> {
     comparison.under(seed);

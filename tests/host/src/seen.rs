@@ -3,12 +3,14 @@
 use crate::calls::Call;
 use crate::watcher::{refused, Entry, Watcher};
 use chirpsteeple_tests::bench::codes::INTERRUPTED;
-use chirpsteeple_tests::bench::export::operation::{CANCEL, REMIGRATE};
+use chirpsteeple_tests::bench::lists::operation::{CANCEL, REMIGRATE};
 use chirpsteeple_tests::bench::Answer;
 
-const KINDS: [&str; 11] = [
+const KINDS: [&str; 14] = [
     "tokens granted",
     "tokens granted after an abort",
+    "tokens granted after a restore",
+    "tokens granted after a write before the restore",
     "tokens granted after several epochs",
     "CANCELs replayed at a token",
     "REMIGRATEs replayed at a token",
@@ -17,6 +19,7 @@ const KINDS: [&str; 11] = [
     "exports interrupted",
     "exports resumed",
     "starts after an abort",
+    "starts after a restore",
     "New in Live or Blackout",
 ];
 
@@ -40,6 +43,8 @@ impl Seen {
         let times = [
             is("token"),
             is("token") * watcher.aborted as usize,
+            is("token") * watcher.restored as usize,
+            is("token") * (watcher.written && watcher.restored) as usize,
             several as usize,
             entries(CANCEL),
             entries(REMIGRATE),
@@ -48,6 +53,7 @@ impl Seen {
             is("export") * (answer.code == INTERRUPTED) as usize,
             is("export") * (call.numbers[1] == 1) as usize,
             is("start") * watcher.aborted as usize,
+            is("start") * watcher.restored as usize,
             is("new") * watcher.migrating as usize,
         ];
         self.times.iter_mut().zip(times).for_each(|(all, more)| *all += more);

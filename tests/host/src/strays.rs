@@ -7,6 +7,7 @@ use chirpsteeple_tests::histories::any::{entry, info, record, BOUNDS, LENGTHS};
 use chirpsteeple_tests::histories::CALLS;
 use chirpsteeple_tests::host::bytes::{self, SESSION_WORDS, STREAMS, WORD};
 use chirpsteeple_tests::random::Random;
+use chirpsteeple_tests::words::INFO;
 
 pub fn stray(comparison: &mut Comparison, random: &mut Random, lent: &Lent) -> Result<(), Difference> {
     let mut copy = lent.clone();
@@ -112,6 +113,7 @@ pub fn any_call(random: &mut Random, lent: &Lent) -> Call {
     match word {
         "new" => Call::new(word, &[if random.one_in(2) { random.pick(&BOUNDS) } else { 2 + random.below(8) }]),
         "export" => any_export(random, lent),
+        "restore" => any_restore(random, lent),
         "dscan" if !random.one_in(4) => {
             let first = random.below(pages);
             let count = random.near(pages - first);
@@ -140,7 +142,7 @@ fn any_export(random: &mut Random, lent: &Lent) -> Call {
     let mut stream = random.below(session.created.clamp(2, 9) - 1);
     let (mut resume, mut first, mut last) = match session.streams[stream as usize] {
         Stream::Interrupted { next, last, .. } => (1, next, last),
-        Stream::AtRest => (0, 0, (lent.list.len() / WORD).saturating_sub(1) as u64),
+        Stream::AtRest => (0, 0, last_of(lent)),
     };
     match random.below(10) {
         0 => stream = random.pick(&BOUNDS),
@@ -151,7 +153,34 @@ fn any_export(random: &mut Random, lent: &Lent) -> Call {
         5 => last = random.near(last),
         _ => (),
     }
-    let info = info(random, first, last);
-    let budget = any_number(random, last.saturating_add(1));
+    let [info, budget] = info_and_budget(random, first, last);
     Call::new("export", &[stream, resume, info, budget])
+}
+
+/// A restore of a part of the list that begins anywhere, but for a bound now and then.
+fn any_restore(random: &mut Random, lent: &Lent) -> Call {
+    let mut last = last_of(lent);
+    let mut first = if random.one_in(2) { 0 } else { random.below(last + 1) };
+    match random.below(10) {
+        0 => first = random.near(last + 1),
+        1 => last = random.near(last),
+        2 => last = random.near(first),
+        _ => (),
+    }
+    Call::new("restore", &info_and_budget(random, first, last))
+}
+
+fn info_and_budget(random: &mut Random, first: u64, last: u64) -> [u64; 2] {
+    [info(random, first, last), any_number(random, last.saturating_add(1))]
+}
+
+/// The last entry of the list, or 0.
+fn last_of(lent: &Lent) -> u64 {
+    (lent.list.len() / WORD).saturating_sub(1) as u64
+}
+
+/// The info word of the whole list.
+pub fn whole_list(lent: &Lent) -> u64 {
+    let [_, _, _, _, last] = INFO;
+    last.with(0, last_of(lent))
 }

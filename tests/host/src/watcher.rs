@@ -5,6 +5,7 @@ use chirpsteeple_tests::bench::codes::{DONE, MALFORMED, MEM_SCAN_FAILED_BLOCKED_
 use chirpsteeple_tests::bench::Answer;
 use chirpsteeple_tests::host::bytes::WORD;
 use chirpsteeple_tests::words::INFO;
+use std::ops::Range;
 
 /// What a page holds, of the guest or at the destination.
 #[derive(Clone, Copy, Debug, PartialEq, Eq)]
@@ -44,8 +45,10 @@ pub struct Watcher {
     latest: Vec<u64>,
     /// Between an accepted start, and the abort or the token that ends what it began.
     pub migrating: bool,
-    /// An abort was accepted since New.
+    /// Since New: an abort was accepted, a write landed on a page that it had left in a state of a migration, a page was restored.
     pub aborted: bool,
+    pub written: bool,
+    pub restored: bool,
     /// Since the last start: writes that landed and left Dirty clear, and exports that were interrupted.
     pub unseen: usize,
     pub interrupted: usize,
@@ -70,6 +73,18 @@ fn dirty(table: &[u8], page: usize) -> bool {
     word(table, 2 * page) >> 8 & 1 == 1
 }
 
+/// The entries that a call by list took: from the FIRST that it was given to the one that came back, or to LAST.
+fn taken(info: u64, answer: &Answer) -> Range<usize> {
+    let [_, first, _, _, last] = INFO;
+    let end = if answer.code == DONE { last.of(info) + 1 } else { first.of(answer.info) };
+    first.of(info) as usize..end as usize
+}
+
+fn succeeded(word: u64) -> bool {
+    let status = word >> 56 & 0x1f;
+    status == 0
+}
+
 impl Watcher {
     /// A call, its answer, and what is lent as the call left it. What no bench may do is told.
     pub fn saw(&mut self, call: Call, answer: &Answer, lent: &Lent) -> Result<(), String> {
@@ -86,6 +101,7 @@ impl Watcher {
             "write" => {
                 self.memory[page] = Contents::Data(mark);
                 self.unseen += !dirty(&lent.table, page) as usize;
+                self.written |= !self.migrating && state(&lent.table, page) > 4;
             }
             "add" => self.memory[page] = Contents::Pending(0),
             "accept" => self.memory[page] = Contents::Data(0),
@@ -102,27 +118,21 @@ impl Watcher {
             "token" => self.migrating = false,
             "export" => {
                 self.interrupted += (answer.code != DONE) as usize;
-                return self.export(call, answer, lent);
+                let mut taken = taken(call.numbers[2], answer);
+                return taken.try_for_each(|index| self.took(word(&lent.list, index), word(&lent.buffer, index)));
+            }
+            // Memory, copy and log pass it by.
+            "restore" => {
+                let mut taken = taken(call.numbers[0], answer);
+                self.restored |= taken.any(|index| succeeded(word(&lent.list, index)));
             }
             _ => (),
         }
         Ok(())
     }
 
-    /// The entries that this call took: from the FIRST that it was given to the one that came back, or to LAST.
-    fn export(&mut self, call: Call, answer: &Answer, lent: &Lent) -> Result<(), String> {
-        let [_, first, _, _, last] = INFO;
-        let info = call.numbers[2];
-        let end = if answer.code == DONE { last.of(info) + 1 } else { first.of(answer.info) };
-        for index in first.of(info)..end {
-            self.took(word(&lent.list, index as usize), word(&lent.buffer, index as usize))?;
-        }
-        Ok(())
-    }
-
     fn took(&mut self, word: u64, buffer: u64) -> Result<(), String> {
-        let status = word >> 56 & 0x1f;
-        if status != 0 {
+        if !succeeded(word) {
             return Ok(());
         }
         let page = (word >> 12 & 0xff_ffff_ffff) as usize;

@@ -1,6 +1,8 @@
 //! The library beside the implementation from document 01, with fixed seeds.
 
-use chirpsteeple_tests::cases::{every_bound_of_an_export, every_bound_of_the_session, every_kind_of_record};
+use chirpsteeple_tests::cases::{
+    every_bound_of_a_restore, every_bound_of_an_export, every_bound_of_the_session, every_kind_of_record,
+};
 use chirpsteeple_tests::random::Random;
 use host_tests::comparison::{same, Comparison, Difference};
 use host_tests::damage::{every_length, every_word_of_a_session};
@@ -40,6 +42,11 @@ fn both_sides_of_every_bound_of_an_export() {
 }
 
 #[test]
+fn both_sides_of_every_bound_of_a_restore() {
+    same_on_lines(&every_bound_of_a_restore());
+}
+
+#[test]
 fn every_word_of_a_session_damaged() {
     library_same(every_word_of_a_session);
 }
@@ -50,6 +57,6 @@ fn slices_of_every_length_about_a_bound() {
 }
 
 #[test]
-fn lists_of_every_length_filled_and_exported() {
+fn lists_of_every_length_filled_exported_and_restored() {
     library_same(lists_of_every_length);
 }

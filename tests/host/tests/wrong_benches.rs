@@ -71,7 +71,7 @@ fn a_right_bench_is_not_found() {
 }
 
 /// Faults that show in few calls, or deep in a history.
-const FAULTS: [(&str, Fault); 9] = [
+const FAULTS: [(&str, Fault); 10] = [
     ("a refusal writes the session's last byte", |_, _, answer, lent| {
         if answer.code == MIGRATION_EPOCH_OVERFLOW {
             flip(&mut lent.session, 383);
@@ -112,6 +112,14 @@ const FAULTS: [(&str, Fault); 9] = [
     ("a refused scan says 511", |call, _, answer, _| {
         if call.word == "dcheck" && answer.code == MEM_SCAN_RESET_REQUIRED {
             answer.first = 511;
+        }
+    }),
+    ("RESTORE keeps the page's epoch", |call, before, answer, lent| {
+        if call.word == "restore" && answer.code < MALFORMED {
+            // Of each page's sixteen bytes, those of bits 47:32 of word 0.
+            for (was, is) in before.table.chunks(16).zip(lent.table.chunks_mut(16)) {
+                is[4..6].copy_from_slice(&was[4..6]);
+            }
         }
     }),
     ("a table of 65,536 bytes is refused", |call, before, answer, lent| {

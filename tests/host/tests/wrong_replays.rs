@@ -20,7 +20,7 @@ impl Bench for Wrong {
     fn call(&mut self, call: Call, lent: &mut Lent) -> Answer {
         let before = lent.clone();
         let mut answer = FromDocument.call(call, lent);
-        if !refused(&answer) || matches!(call.word, "export" | "unblock" | "remove" | "token") {
+        if !refused(&answer) || matches!(call.word, "export" | "unblock" | "remove" | "start" | "token") {
             (self.0)(call, &before, &mut answer, lent);
         }
         answer
@@ -68,13 +68,20 @@ fn again_with(at: usize, number: u64, call: Call, before: &Lent, answer: &mut An
     put(&mut lent.session, at, word(&before.session, at));
 }
 
+/// Makes the call again, with the pages that are in one state in another.
+fn again_as(state: u64, other: u64, call: Call, before: &Lent, answer: &mut Answer, lent: &mut Lent) {
+    *lent = before.clone();
+    change(lent, |_, found| if found.state == state { Record { state: other, ..found } } else { found });
+    *answer = FromDocument.call(call, lent);
+}
+
 /// The places of phase, TLB epoch and migration epoch in a session.
 const PHASE: usize = 0;
 const TLB_EPOCH: usize = 2;
 const MIGRATION_EPOCH: usize = 3;
 
 /// Each of them lets a destination differ from the guest, or an epoch have a page twice.
-const FAULTS: [(&str, Fault); 8] = [
+const FAULTS: [(&str, Fault); 9] = [
     ("no status 7 for CANCEL", |call, before, answer, lent| {
         if call.word == "export" {
             let now = word(&before.session, MIGRATION_EPOCH);
@@ -119,10 +126,17 @@ const FAULTS: [(&str, Fault); 8] = [
     }),
     ("27 is not counted by 53", |call, before, answer, lent| {
         if call.word == "token" {
-            *lent = before.clone();
-            change(lent, |_, found| if found.state == 27 { Record { state: 0, ..found } } else { found });
-            *answer = FromDocument.call(call, lent);
+            again_as(27, 0, call, before, answer, lent);
             lent.table = before.table.clone();
+        }
+    }),
+    ("start takes 24", |call, before, answer, lent| {
+        if call.word == "start" {
+            again_as(24, 4, call, before, answer, lent);
+            change(lent, |page, left| match record(before, page).state {
+                24 => Record { state: 24, ..left },
+                _ => left,
+            });
         }
     }),
     ("a listed 24 stays 24", |call, before, _, lent| {
@@ -141,7 +155,7 @@ fn faults_that_spoil_a_destination() {
 }
 
 /// Each of them withholds a token that was earned.
-const WITHHOLDING: [(&str, Fault); 3] = [
+const WITHHOLDING: [(&str, Fault); 4] = [
     ("the token never comes", |call, before, answer, lent| {
         if call.word == "token" && answer.code == DONE {
             *answer = Answer { code: UNEXPORTED_MEMORY_REMAINS, ..Answer::default() };
@@ -151,6 +165,11 @@ const WITHHOLDING: [(&str, Fault); 3] = [
     ("Blackout asks for tracking", |call, before, answer, lent| {
         if call.word == "export" && word(&before.session, PHASE) == Phase::Blackout as u64 {
             again_with(PHASE, Phase::Live as u64, call, before, answer, lent);
+        }
+    }),
+    ("start keeps the pages' epochs", |call, before, _, lent| {
+        if call.word == "start" {
+            change(lent, |page, left| Record { epoch: record(before, page).epoch, ..left });
         }
     }),
     ("a new epoch is the old one", |call, before, _, lent| {

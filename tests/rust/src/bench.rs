@@ -2,8 +2,10 @@
 
 pub mod codes;
 pub mod export;
+pub mod lists;
 pub mod memory;
 pub mod record;
+pub mod restore;
 pub mod scans;
 pub mod session;
 pub mod session_calls;
@@ -31,7 +33,7 @@ pub struct Answer {
     /// The first and the last entry that a scan listed; 511 and 0 when there is none.
     pub first: u64,
     pub last: u64,
-    /// The info word of an export, with the next entry as its FIRST.
+    /// The info word of a call by list, with the next entry as its FIRST.
     pub info: u64,
     pub errors: u64,
     pub buffers: u64,

@@ -1,6 +1,7 @@
 //! Scenarios that leave nothing to chance: every kind of record, and both sides of every bound.
 
 use crate::bench::record::{Record, BASE};
+use crate::histories::any::asked;
 use crate::histories::CALLS;
 use crate::words::INFO;
 
@@ -14,7 +15,7 @@ fn every_call_after(lines: &str) -> String {
         // A part of one page, and a list of one entry; the budget stands last.
         "dscan" => "0 1 9",
         "export" => "0 0 0 9",
-        // The page and the mark, or the budget.
+        // The page and the mark, or the budget; or the info word of one entry, and the budget.
         _ => "0 9",
     };
     CALLS.iter().map(|call| format!("{lines}{call} {}\n", operands(call))).collect()
@@ -108,33 +109,54 @@ fn info(of_format: u64, of_first: u64, of_zero: u64, of_last: u64) -> u64 {
     last.with(zero.with(first.with(format.with(0, of_format), of_first), of_zero), of_last)
 }
 
+/// Of entries 0 to 3 of a list, the whole; and what is left of it from entry 2 on.
+fn whole_and_rest() -> [u64; 2] {
+    [info(0, 0, 0, 3), info(0, 2, 0, 3)]
+}
+
+/// Every bit of HPA.
+fn hpa() -> u64 {
+    INFO[2].with(0, u64::MAX)
+}
+
+/// The info words of entries 0 to 3 of a list of five, with FIRST or LAST at a bound, on either side, or with a bit that must be 0.
+fn infos_at_bounds() -> Vec<u64> {
+    const PARTS: [(u64, u64); 12] =
+        [(0, 2), (0, 3), (1, 3), (2, 3), (2, 2), (2, 4), (3, 3), (4, 3), (511, 3), (0, 4), (0, 5), (2, 511)];
+    let parts = PARTS.map(|(first, last)| info(0, first, 0, last));
+    let bits = (1..8).flat_map(|n| [info(n, 2, 0, 3), info(0, 2, n, 3)]);
+    parts.into_iter().chain(bits).collect()
+}
+
+/// Budgets about the four entries, and far beyond.
+const BUDGETS: [u64; 8] = [0, 1, 2, 3, 4, 5, 1 << 32, u64::MAX];
+
 /// Exports of entries 0 to 3 of a list of five, each with one operand or two at a bound, on either side.
 fn exports_at_bounds() -> Vec<String> {
-    const PARTS: [(u64, u64); 11] =
-        [(0, 2), (0, 3), (1, 3), (2, 3), (2, 2), (2, 4), (3, 3), (511, 3), (0, 4), (0, 5), (2, 511)];
-    let whole = info(0, 0, 0, 3);
-    let rest = info(0, 2, 0, 3);
-    let hpa = INFO[2].with(0, u64::MAX);
-    let mut exports = vec![format!("export 0 0 {} 9\n", hpa + whole), format!("export 0 1 {} 9\n", hpa + rest)];
+    let [whole, rest] = whole_and_rest();
+    let mut exports = vec![format!("export 0 0 {} 9\n", hpa() + whole), format!("export 0 1 {} 9\n", hpa() + rest)];
     for stream in [0, 1, 3, 4, 7, 8, 1 << 32, u64::MAX] {
         exports.push(format!("export {stream} 0 {whole} 9\n"));
         exports.push(format!("export {stream} 1 {rest} 9\n"));
     }
     for resume in [0, 1, 2, u64::MAX] {
-        let parts = PARTS.map(|(first, last)| info(0, first, 0, last));
-        let bits = (1..8).flat_map(|n| [info(n, 2, 0, 3), info(0, 2, n, 3)]);
-        exports.extend(parts.into_iter().chain(bits).map(|info| format!("export 0 {resume} {info} 9\n")));
+        exports.extend(infos_at_bounds().iter().map(|info| format!("export 0 {resume} {info} 9\n")));
     }
-    for budget in [0, 1, 2, 3, 4, 5, 1 << 32, u64::MAX] {
+    for budget in BUDGETS {
         exports.push(format!("export 0 0 {whole} {budget}\n"));
         exports.push(format!("export 0 1 {rest} {budget}\n"));
     }
     exports
 }
 
+/// Entries for pages 0 to 4, in their order.
+fn five_entries() -> String {
+    (0..5).map(|page| format!("entry {page} {}\n", asked(page))).collect()
+}
+
 /// On a stream at rest, and on one that was interrupted before entry 2.
 pub fn every_bound_of_an_export() -> String {
-    let entries: String = (0..5).map(|page: u64| format!("entry {page} {}\n", (1 << 52) + (page << 12))).collect();
+    let entries = five_entries();
     let pages = "word 0 0x10004\nword 2 2\nword 4 25\nword 6 30\nword 8 27\n";
     let mut input = "lend 10\nnew 5\nstart\ntrack\nlist 5\nbuffer 5\n".to_owned();
     for phase in [1, 2] {
@@ -144,18 +166,42 @@ pub fn every_bound_of_an_export() -> String {
             }
         }
     }
-    input + "rest 0\n" + &lists_at_bounds()
+    input += "rest 0\n";
+    for (length, last) in lists_at_bounds() {
+        for buffer in [length.saturating_sub(1), length, length + 1] {
+            let info = info(0, 0, 0, last);
+            input += &format!("list {length}\nbuffer {buffer}\nexport 0 0 {info} 600\n");
+        }
+    }
+    input
 }
 
-/// Lists of every length about the bounds, each with a buffer of about that length and LAST about its end.
-fn lists_at_bounds() -> String {
-    let mut input = String::new();
-    for length in [0, 1, 2, 256, 257, 511, 512, 513, 514u64] {
-        for buffer in [length.saturating_sub(1), length, length + 1] {
-            for last in [0, length.saturating_sub(2), length.saturating_sub(1), length, 511] {
-                let info = info(0, 0, 0, last.min(511));
-                input += &format!("list {length}\nbuffer {buffer}\nexport 0 0 {info} 600\n");
-            }
+/// Lists of every length about the bounds, each with LAST about its end.
+fn lists_at_bounds() -> Vec<(u64, u64)> {
+    let lasts = |length: u64| [0, length.saturating_sub(2), length.saturating_sub(1), length, 511];
+    let lengths = [0, 1, 2, 256, 257, 511, 512, 513, 514];
+    lengths.iter().flat_map(|&length| lasts(length).map(|last| (length, last.min(511)))).collect()
+}
+
+/// Operands, then entries with each bit of the word by itself, and then lists.
+pub fn every_bound_of_a_restore() -> String {
+    let entries = five_entries();
+    let pages = "word 0 0x100020318\nword 2 0x100000019\nword 4 0x10002021a\nword 6 0x10000001b\nword 8 0x10002001f\n";
+    let [whole, rest] = whole_and_rest();
+    let infos = infos_at_bounds().into_iter().chain([hpa() + whole, hpa() + rest]).map(|info| (info, 9));
+    let budgets = [whole, rest].into_iter().flat_map(|info| BUDGETS.map(|budget| (info, budget)));
+    let mut input = "lend 10\nnew 5\nlist 5\n".to_owned();
+    for (info, budget) in infos.chain(budgets) {
+        input += &format!("{pages}{entries}restore {info} {budget}\n");
+    }
+    for operation in 0..4u64 {
+        for bit in (0..64).map(|bit| 1u64 << bit).chain([0]) {
+            input += &format!("{pages}entry 0 {}\nrestore 0 1\n", operation << 52 ^ bit);
+        }
+    }
+    for (length, last) in lists_at_bounds() {
+        for first in [0, last.saturating_sub(1), last, last + 1] {
+            input += &format!("list {length}\n{pages}{entries}restore {} 600\n", info(0, first, 0, last));
         }
     }
     input

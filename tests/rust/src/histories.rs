@@ -2,6 +2,7 @@
 
 pub mod any;
 mod lists;
+mod restores;
 
 use crate::bench::session::{Phase, Session, Stream};
 use crate::bench::{MOST_ENTRIES, MOST_WORDS};
@@ -10,9 +11,9 @@ use crate::scenario::Scenario;
 use any::{interrupted, record, well_formed, BOUNDS};
 
 /// The words of the calls.
-pub const CALLS: [&str; 17] = [
+pub const CALLS: [&str; 18] = [
     "new", "write", "add", "accept", "block", "unblock", "remove", "track", "start", "pause", "abort", "newepoch",
-    "dscan", "dcheck", "reset", "export", "token",
+    "dscan", "dcheck", "reset", "export", "restore", "token",
 ];
 
 /// Those that a guest's life is made of.
@@ -75,6 +76,7 @@ impl History {
                 8 if random.one_in(4) => self.say(format!("tlb {}", random.pick(&[65_534, 65_535]))),
                 9 if phase != Phase::Idle && random.one_in(4) => self.say("epoch 65534".to_owned()),
                 10..=13 if matches!(phase, Phase::Live | Phase::Blackout) => self.round(random),
+                10..=13 if phase == Phase::Idle && self.left_by_an_abort() => self.come_back(random),
                 14..=16 if self.scenario.session.busy() => self.go_on(random),
                 _ => self.fitting_call(random),
             }
@@ -88,6 +90,7 @@ impl History {
         for _ in 0..1 + random.below(4) {
             match self.scenario.session.phase {
                 Phase::Live | Phase::Blackout if random.one_in(3) => self.round(random),
+                Phase::Idle if random.one_in(3) => self.come_back(random),
                 _ => self.any_call(random),
             }
         }
@@ -208,8 +211,8 @@ impl History {
     /// A call that the phase is for, mostly.
     fn fitting_call(&mut self, random: &mut Random) {
         let fitting: &[&str] = match self.scenario.session.phase {
-            Phase::Idle => &["start"],
-            Phase::Live => &["newepoch", "dscan", "reset", "export", "pause", "pause"],
+            Phase::Idle => &["start", "start", "restore"],
+            Phase::Live => &["newepoch", "dscan", "reset", "export", "pause", "pause", "abort"],
             Phase::Blackout => &["newepoch", "dcheck", "reset", "export", "abort", "token", "token"],
             Phase::Done => &["new"],
         };
@@ -242,7 +245,7 @@ impl History {
             "new" => format!("new {}", if random.one_in(4) { random.pick(&BOUNDS) } else { 2 + random.below(8) }),
             "write" => format!("write {page} {}", random.uneven_word()),
             "add" | "accept" | "block" | "unblock" | "remove" => format!("{word} {page}"),
-            "dscan" | "dcheck" | "export" => return self.call_with_a_list(random, word),
+            "dscan" | "dcheck" | "export" | "restore" => return self.call_with_a_list(random, word),
             _ => word.to_owned(),
         });
     }

@@ -5,7 +5,7 @@ pub mod bytes;
 use crate::bench::codes::{MALFORMED, MEM_SCAN_FAILED_BLOCKED_RANGE, OPERAND_INVALID};
 use crate::bench::export::{self, Operands};
 use crate::bench::session::{Phase, Session};
-use crate::bench::{memory, refusal, scans, session_calls, Answer};
+use crate::bench::{memory, refusal, restore, scans, session_calls, Answer};
 
 /// 51 is no refusal, and nor is what stands below 40.
 fn refused(code: u64) -> bool {
@@ -151,5 +151,11 @@ pub fn export(
         }
         let operands = Operands { stream, resume: resume == 1, info, budget };
         export::export(session, table, list, buffer, operands)
+    })
+}
+
+pub fn restore(session: &mut [u8], table: &mut [u8], list: &mut [u8], info: u64, budget: u64) -> Answer {
+    on_lists(session, table, [list], &restore::PHASES, |session, table, [list]| {
+        restore::restore(session, table, list, info, budget)
     })
 }

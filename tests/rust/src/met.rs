@@ -7,7 +7,7 @@ use crate::words::{ENTRY, INFO};
 use std::collections::BTreeMap;
 
 /// The codes that document 01 gives each call, in the order of `CALLS`. 40 is for all. 41 is for all but New, which comes in any phase; block has 49 beside it. 42 is for those with an operand that may be wrong.
-pub const CODES: [&[u64]; 17] = [
+pub const CODES: [&[u64]; 18] = [
     // new
     &[0, 40, 42],
     // write, add, accept
@@ -17,8 +17,8 @@ pub const CODES: [&[u64]; 17] = [
     // block
     &[0, 40, 41, 42, 45, 49],
     // unblock, remove
-    &[0, 40, 41, 42, 46, 47],
-    &[0, 40, 41, 42, 46, 47],
+    &[0, 40, 41, 42, 45, 46, 47],
+    &[0, 40, 41, 42, 45, 46, 47],
     // track
     &[0, 40, 41, 56],
     // start
@@ -37,22 +37,34 @@ pub const CODES: [&[u64]; 17] = [
     &[0, 40, 41],
     // export
     &[0, 1, 40, 41, 42, 44],
+    // restore
+    &[0, 1, 40, 41, 42],
     // token
     &[0, 40, 41, 43, 52, 53, 54],
 ];
 
-/// What becomes of an entry: its STATUS and its OPERATION.
-const STATUSES: [u64; 8] = [0, 1, 2, 4, 5, 7, 15, 17];
-const OPERATIONS: [u64; 4] = [0, 1, 2, 3];
+/// What becomes of the entries of a call by list, whose info word stands in a place among its numbers: the numbers that a field comes back with.
+struct Outcome {
+    call: &'static str,
+    info: usize,
+    field: &'static str,
+    numbers: &'static [u64],
+}
+
+const OUTCOMES: [Outcome; 4] = [
+    Outcome { call: "export", info: 2, field: "status", numbers: &[0, 1, 2, 4, 5, 7, 15, 17] },
+    Outcome { call: "export", info: 2, field: "operation", numbers: &[0, 1, 2, 3] },
+    Outcome { call: "restore", info: 0, field: "status", numbers: &[0, 1, 2, 4, 15] },
+    Outcome { call: "restore", info: 0, field: "operation", numbers: &[0, 1] },
+];
 
 /// How often each number was met.
 type Times = BTreeMap<u64, usize>;
 
 #[derive(Default)]
 pub struct Met {
-    codes: [Times; 17],
-    statuses: Times,
-    operations: Times,
+    codes: [Times; 18],
+    outcomes: [Times; OUTCOMES.len()],
 }
 
 impl Met {
@@ -62,12 +74,13 @@ impl Met {
         *self.codes[call].entry(answer.code).or_default() += 1;
     }
 
-    /// An export that was given `info`, and its list afterwards.
-    pub fn export(&mut self, info: u64, answer: &Answer, list: &[u64]) {
-        let [_, _, _, _, _, _, _, operation, _, status, _] = ENTRY;
-        for &word in taken(info, answer, list) {
-            *self.statuses.entry(status.of(word)).or_default() += 1;
-            *self.operations.entry(operation.of(word)).or_default() += 1;
+    /// The same call with its numbers, and its list afterwards; without a list it took no entries.
+    pub fn entries(&mut self, word: &str, numbers: &[u64], answer: &Answer, list: &[u64]) {
+        for (outcome, met) in OUTCOMES.iter().zip(&mut self.outcomes).filter(|(outcome, _)| outcome.call == word) {
+            let field = ENTRY.iter().find(|run| run.name == outcome.field).unwrap();
+            for &entry in taken(numbers[outcome.info], answer, list) {
+                *met.entry(field.of(entry)).or_default() += 1;
+            }
         }
     }
 
@@ -81,8 +94,9 @@ impl Met {
         for ((call, codes), met) in CALLS.iter().zip(CODES).zip(&self.codes) {
             faults.extend(between(&format!("{call} with code"), codes, met, times));
         }
-        faults.extend(between("an entry with STATUS", &STATUSES, &self.statuses, times));
-        faults.extend(between("an entry with OPERATION", &OPERATIONS, &self.operations, times));
+        for (Outcome { call, field, numbers, .. }, met) in OUTCOMES.iter().zip(&self.outcomes) {
+            faults.extend(between(&format!("{call} of an entry with {field}"), numbers, met, times));
+        }
         faults
     }
 
@@ -94,9 +108,9 @@ impl Met {
             let cell = |code| met.get(code).map_or(".".to_owned(), |times| times.to_string());
             lines.push(row(call, codes.iter().map(cell)));
         }
-        for (what, met) in [("STATUS", &self.statuses), ("OPERATION", &self.operations)] {
+        for (Outcome { call, field, .. }, met) in OUTCOMES.iter().zip(&self.outcomes) {
             let cells: Vec<String> = met.iter().map(|(number, times)| format!("{number}: {times}")).collect();
-            lines.push(format!("{what:9} {}", cells.join(", ")));
+            lines.push(format!("{call:9}{field:10}{}", cells.join(", ")));
         }
         lines.join("\n")
     }
@@ -115,7 +129,7 @@ fn between(what: &str, expected: &[u64], met: &Times, times: usize) -> Vec<Strin
         .collect()
 }
 
-/// The entries that an export took. Its FIRST is where it began, also in a new call, where it is 0.
+/// The entries that a call by list took. Its FIRST is where it began, also in a new export, where it is 0.
 fn taken<'a>(info: u64, answer: &Answer, list: &'a [u64]) -> &'a [u64] {
     let [_, first, _, _, last] = INFO;
     let end = match answer.code {
@@ -138,15 +152,19 @@ mod tests {
                 met.call(call, &Answer { code, ..Answer::default() });
             }
         }
-        STATUSES.iter().for_each(|&status| *met.statuses.entry(status).or_default() += 1);
-        OPERATIONS.iter().for_each(|&operation| *met.operations.entry(operation).or_default() += 1);
+        for (outcome, times) in OUTCOMES.iter().zip(&mut met.outcomes) {
+            times.extend(outcome.numbers.iter().map(|&number| (number, 1)));
+        }
         assert_eq!(met.faults(1), Vec::<String>::new());
         assert!(met.faults(2).contains(&"token with code 54 was met 1 times".to_owned()));
         met.call("dcheck", &Answer::default());
         assert_eq!(met.faults(1), ["dcheck with code 0 was met, which document 01 does not have"]);
         met.codes[0].remove(&42);
         assert_eq!(met.faults(1).first().unwrap(), "new with code 42 was met 0 times");
-        met.statuses.remove(&17);
-        assert_eq!(met.faults(1).last().unwrap(), "an entry with STATUS 17 was met 0 times");
+        met.outcomes[0].remove(&17);
+        assert_eq!(met.faults(1).last().unwrap(), "export of an entry with status 17 was met 0 times");
+        met.outcomes[3].insert(3, 1);
+        let wrong = "restore of an entry with operation 3 was met, which document 01 does not have";
+        assert_eq!(met.faults(1).last().unwrap(), wrong);
     }
 }

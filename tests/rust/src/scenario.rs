@@ -2,6 +2,7 @@
 
 use crate::bench::export::{export, Operands};
 use crate::bench::memory::{accept, add, block, new, remove, track, unblock, write};
+use crate::bench::restore::restore;
 use crate::bench::scans::{dcheck, dscan, reset};
 use crate::bench::session::{Phase, Session, Stream};
 use crate::bench::session_calls::{abort, new_epoch, pause, start, start_token};
@@ -104,6 +105,7 @@ impl Scenario {
                 let operands = Operands { stream: a, resume: b != 0, info: c, budget: d };
                 export(session, table, list, buffer, operands)
             }
+            "restore" => restore(session, table, list, a, b),
             "token" => start_token(session, table),
             _ => return None,
         })

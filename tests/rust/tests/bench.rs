@@ -1,6 +1,8 @@
 //! The calls: the written scenario against its own comments, and the program `scenario` against `chirpsteeple_tests::bench`.
 
-use chirpsteeple_tests::cases::{every_bound_of_an_export, every_bound_of_the_session, every_kind_of_record};
+use chirpsteeple_tests::cases::{
+    every_bound_of_a_restore, every_bound_of_an_export, every_bound_of_the_session, every_kind_of_record,
+};
 use chirpsteeple_tests::histories::random_scenario;
 use chirpsteeple_tests::met::Met;
 use chirpsteeple_tests::program::output;
@@ -77,9 +79,7 @@ fn random_scenarios_meet_every_code_of_every_call_and_every_outcome_of_an_entry(
             let answered = scenario.line(line).map_or(false, |printed| printed.starts_with("code "));
             if let (true, Some((word, Some(numbers)))) = (answered, parts(line)) {
                 met.call(word, &scenario.answer);
-                if word == "export" {
-                    met.export(numbers[2], &scenario.answer, &scenario.spaces.list.words);
-                }
+                met.entries(word, &numbers, &scenario.answer, &scenario.spaces.list.words);
             }
         }
     }
@@ -109,6 +109,11 @@ fn the_program_on_every_bound_of_an_export() {
 }
 
 #[test]
+fn the_program_on_every_bound_of_a_restore() {
+    same(&every_bound_of_a_restore());
+}
+
+#[test]
 fn the_program_on_lines_in_every_form() {
     same("\n   \n# a comment\n  # another\nlend 2 # a third\nnew 2  \nnew  2   # a fourth\nnew 0002\nnew\n");
     same("lend 2\nnew 2 99 99 99 99 99 99\nstream 7 1 2 3 4 5 6\nstream 8 1 1 1 1\nrest 8\nphase 9\nlend 9999\nnew 2\n");
@@ -118,6 +123,6 @@ fn the_program_on_lines_in_every_form() {
     same("word 0 0xff\nword 1 00x0f\nword 2 0x\nword 3 0xffffffffffffffff\nword 4 0x0000000000000000001\nshow 0 5\n");
     same("word 0 0x10000000000000000\nword 0 x5\nword 0 1x5\nword 0 0x5x\nword 0 0xx\nword 0 5a\nword 0 0xA\nword 0 0X5\n");
     same("list 2\nbuffer 3\nentry 1 5\nentry 513 6\nentry 514 7\ncontent 0 8\ncontent 513 9\ncontent 514 1\nreset\n");
-    same("entry 513 6\nlisted 512 600\nsent 0 2\nlisted 514 515\nsent 3 2\nlisted\ndscan\ndcheck\nexport\n");
+    same("entry 513 6\nlisted 512 600\nsent 0 2\nlisted 514 515\nsent 3 2\nlisted\ndscan\ndcheck\nexport\nrestore\n");
     same("lend 2\nnew 2");
 }

@@ -3,7 +3,7 @@
 use chirpsteeple_tests::bench::session::{Check, Phase, Session, Stream};
 use chirpsteeple_tests::histories::any::well_formed;
 use chirpsteeple_tests::host::bytes::{bytes, session, session_bytes, words};
-use chirpsteeple_tests::host::{dcheck, dscan, export, new, pause, start};
+use chirpsteeple_tests::host::{dcheck, dscan, export, new, pause, restore, start};
 use chirpsteeple_tests::random::Random;
 
 /// A session of one page, stream 0 at rest or not.
@@ -141,5 +141,19 @@ fn a_ragged_list_of_a_check_is_42_before_50() {
     for (check, length, code) in [(failed, 12, 42), (failed, 8, 50), (Check::RESET, 8, 3), (Check::RESET, 9, 42)] {
         let mut session = one_page(Phase::Blackout, check, Stream::AtRest);
         assert_eq!(dcheck(&mut session, &mut [0; 16], &mut vec![0; length], 9).code, code);
+    }
+}
+
+#[test]
+fn a_ragged_list_of_a_restore_is_42_after_40_and_41() {
+    for (phase, stream, length, code) in [
+        (Phase::Idle, INTERRUPTED, 9, 40),
+        (Phase::Live, Stream::AtRest, 9, 41),
+        (Phase::Idle, Stream::AtRest, 9, 42),
+        (Phase::Idle, Stream::AtRest, 0, 42),
+        (Phase::Idle, Stream::AtRest, 8, 0),
+    ] {
+        let mut session = one_page(phase, Check::RESET, stream);
+        assert_eq!(restore(&mut session, &mut [0; 16], &mut vec![0; length], 0, 9).code, code);
     }
 }

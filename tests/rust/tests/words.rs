@@ -84,6 +84,7 @@ states 0 1 2 3 4 24 25 26 27 29 30 31 5 6 8 9 11 12 16 17 19 20 28 32 33 34 64 6
 statuses 0 1 2 4 5 7 15 17
 operations 0 1 2 3
 hints 0 1 2 3
+restores 0 1
 ";
     assert_eq!(output("named_numbers", ""), expected);
 }

@@ -2,7 +2,7 @@
 use borrow.Author.Needs.{needs}
 use mathlib.Core.Path.{refl, sym, ap, _∙_}
 use Rattle.migration.proofs.Laws.{alone-answer, alone-table}
-use Rattle.calls.specs.Calls.{withoutNumbers, scanNumbers, exportNumbers}
+use Rattle.calls.specs.Calls.{withoutNumbers, scanNumbers, exportNumbers, listNumbers}
 use Rattle.calls.proofs.perform.Statement.{statement}
 use Rattle.calls.proofs.perform.Tie as tie
 
@@ -74,6 +74,15 @@ export-requires c κs = search needs
 
 export-numbers-requires : tie.Need-export-numbers-requires
 export-numbers-requires c κs = search needs
+
+enum-known-call-8 : tie.Need-enum-known-call-8
+enum-known-call-8 c = search needs
+
+restore-requires : tie.Need-restore-requires
+restore-requires c κs = search needs
+
+list-numbers-requires : tie.Need-list-numbers-requires
+list-numbers-requires c κs = search needs
 
 same-length : tie.Need-same-length
 same-length c = search needs
@@ -153,6 +162,18 @@ returns-8 c =
     rw (at-made .before .before .before .before .before .call7 .given .1)
     (c .export-numbers .ensures ∙ ap exportNumbers (made .0), (made .1 .0, (made .1 .1 .0, made .1 .1 .1)))
 
+same-length-12 : tie.Need-same-length-12
+same-length-12 c = search needs
+
+same-length-13 : tie.Need-same-length-13
+same-length-13 c = search needs
+
+returns-9 : tie.Need-returns-9
+returns-9 c =
+    let at-made = c .before .before .before .before .before in
+    let made = at-made .restore .ensures in
+    rw (at-made .before .before .before .before .call8 .given .1) (c .list-numbers .ensures ∙ ap listNumbers (made .0), (made .1 .0, (made .1 .1, refl)))
+
 pub perform-spec : {M : Type 1} → statement M
 perform-spec =
     tie.close
@@ -180,6 +201,9 @@ perform-spec =
     enum-known-call-7
     export-requires
     export-numbers-requires
+    enum-known-call-8
+    restore-requires
+    list-numbers-requires
     same-length
     returns
     same-length-2
@@ -198,4 +222,7 @@ perform-spec =
     same-length-9
     same-length-10
     same-length-11
-    returns-8)
+    returns-8
+    same-length-12
+    same-length-13
+    returns-9)

@@ -1,24 +1,25 @@
--- There is one kind, which no `match` has to tell from others: its clause of the definition.
+-- Each arm is its clause of the definition.
 use borrow.Author.Needs.{needs}
-use mathlib.Core.Path.{_≡_, refl, _∙_}
-use Prim.Native.Nat.{ℕ}
-use Rattle.page.specs.declared.PageWords.{PageWords}
-use Rattle.entry.specs.Entry.{takenOf}
-use Rattle.entry.specs.declared.Ground.{Ground}
-use Rattle.lists.specs.Kinds.{takenBy}
-use Rattle.lists.specs.declared.Kind.{Kind}
-use Rattle.lists.specs.declared.Kind.the-variants.{Export}
 use Rattle.lists.proofs.take.Statement.{statement}
 use Rattle.lists.proofs.take.Tie as tie
 
-only : (kind : Kind) (g : Ground) (word held : ℕ) (w : PageWords) → takenOf word w g ≡ takenBy kind g word held w
-only Export g word held w = refl
+enum-told : tie.Need-enum-told
+enum-told c = search needs
 
 take-entry-requires : tie.Need-take-entry-requires
 take-entry-requires c κs = search needs
 
+enum-told-2 : tie.Need-enum-told-2
+enum-told-2 c = search needs
+
+take-entry-requires-2 : tie.Need-take-entry-requires-2
+take-entry-requires-2 c κs = search needs
+
 returns : tie.Need-returns
-returns c = let x = c .before .args in c .take-entry .ensures ∙ only (x .kind) (x .g) (x .word) (x .held) (x .w)
+returns c = rw (c .before .enum-told .given .1) (c .take-entry .ensures)
+
+returns-2 : tie.Need-returns-2
+returns-2 c = rw (c .before .enum-told2 .given .1) (c .take-entry2 .ensures)
 
 pub take-spec : {M : Type 1} → statement M
-take-spec = tie.close (tie.spec take-entry-requires returns)
+take-spec = tie.close (tie.spec enum-told take-entry-requires enum-told-2 take-entry-requires-2 returns returns-2)

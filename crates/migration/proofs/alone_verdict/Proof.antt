@@ -48,6 +48,12 @@ no-check-requires c κs = search needs
 make-requires-2 : tie.Need-make-requires-2
 make-requires-2 c κs = search needs
 
+enum-told-3 : tie.Need-enum-told-3
+enum-told-3 c = search needs
+
+make-requires-3 : tie.Need-make-requires-3
+make-requires-3 c κs = search needs
+
 returns-4 : tie.Need-returns-4
 unfolding aloneVerdict
 returns-4 c =
@@ -59,6 +65,12 @@ unfolding aloneVerdict
 returns-5 c =
     let at-told = c .before .before in
     rw (eq-eqb _ _ (at-told .before .before .if1 .left), at-told .enum-told2 .given .1, ← c .before .no-check .ensures) (c .make2 .ensures)
+
+returns-6 : tie.Need-returns-6
+unfolding aloneVerdict
+returns-6 c =
+    let at-told = c .before in
+    rw (eq-eqb _ _ (at-told .before .before .if1 .left), at-told .enum-told3 .given .1) (c .make3 .ensures)
 
 pub alone-verdict-spec : {M : Type 1} → statement M
 alone-verdict-spec =
@@ -76,5 +88,8 @@ alone-verdict-spec =
     enum-told-2
     no-check-requires
     make-requires-2
+    enum-told-3
+    make-requires-3
     returns-4
-    returns-5)
+    returns-5
+    returns-6)

@@ -70,12 +70,6 @@ returns-5 c =
 make-requires-3 : tie.Need-make-requires-3
 make-requires-3 c κs = search needs
 
-enum-told-4 : tie.Need-enum-told-4
-enum-told-4 c = search needs
-
-make-requires-4 : tie.Need-make-requires-4
-make-requires-4 c κs = search needs
-
 returns-6 : tie.Need-returns-6
 unfolding sweepVerdict
 returns-6 c =
@@ -94,12 +88,6 @@ unfolding sweepVerdict
 returns-8 c =
     let at-told = c .before .before .before in
     rw (eq-eqb _ _ (at-told .before .before .if1 .left), at-told .enum-told3 .given .1, c .before .before .if4 .left, c .before .if5 .left) (c .make3 .ensures)
-
-returns-9 : tie.Need-returns-9
-unfolding sweepVerdict
-returns-9 c =
-    let at-told = c .before in
-    rw (eq-eqb _ _ (at-told .before .before .if1 .left), at-told .enum-told4 .given .1) (c .make4 .ensures)
 
 pub sweep-verdict-spec : {M : Type 1} → statement M
 sweep-verdict-spec =
@@ -122,9 +110,6 @@ sweep-verdict-spec =
     refuse-requires-5
     returns-5
     make-requires-3
-    enum-told-4
-    make-requires-4
     returns-6
     returns-7
-    returns-8
-    returns-9)
+    returns-8)

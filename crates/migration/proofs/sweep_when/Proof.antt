@@ -12,9 +12,6 @@ enum-told-2 c = search needs
 enum-told-3 : tie.Need-enum-told-3
 enum-told-3 c = search needs
 
-enum-told-4 : tie.Need-enum-told-4
-enum-told-4 c = search needs
-
 returns : tie.Need-returns
 returns c = rw (c .enum-told .given .1)
 
@@ -24,9 +21,6 @@ returns-2 c = rw (c .enum-told2 .given .1)
 returns-3 : tie.Need-returns-3
 returns-3 c = rw (c .enum-told3 .given .1)
 
-returns-4 : tie.Need-returns-4
-returns-4 c = rw (c .enum-told4 .given .1)
-
 pub sweep-when-spec : {M : Type 1} → statement M
 sweep-when-spec =
     tie.close
@@ -34,8 +28,6 @@ sweep-when-spec =
     enum-told
     enum-told-2
     enum-told-3
-    enum-told-4
     returns
     returns-2
-    returns-3
-    returns-4)
+    returns-3)

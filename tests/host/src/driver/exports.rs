@@ -18,8 +18,8 @@ pub(super) struct Running {
     buffer: Box<[u8]>,
 }
 
-/// The part of a scan's work that a driver asks for at once.
-fn budget(random: &mut Random, whole: u64) -> u64 {
+/// The part of a call's work that a driver asks for at once.
+pub(super) fn budget(random: &mut Random, whole: u64) -> u64 {
     match random.below(8) {
         0 => random.below(4),
         1 | 2 => random.below(whole + 2),
@@ -75,10 +75,7 @@ impl Driver<'_, '_> {
         if listed == 0 {
             return Ok(());
         }
-        if self.random.one_in(8) {
-            let (at, page) = (self.random.below(listed), self.random.below(self.pages));
-            put(&mut self.lent.list, at as usize, entry(self.random, page, self.pages));
-        }
+        self.any_entry_now_and_then(listed);
         match self.at_rest() {
             Some(stream) => {
                 let [_, _, hpa, _, last] = INFO;
@@ -86,6 +83,14 @@ impl Driver<'_, '_> {
                 self.export(stream, 0, info)
             }
             None => self.go_on(),
+        }
+    }
+
+    /// Anything in the place of an entry of the list, which has so many.
+    pub(super) fn any_entry_now_and_then(&mut self, entries: u64) {
+        if self.random.one_in(8) {
+            let (at, page) = (self.random.below(entries), self.random.below(self.pages));
+            put(&mut self.lent.list, at as usize, entry(self.random, page, self.pages));
         }
     }
 

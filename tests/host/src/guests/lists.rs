@@ -5,13 +5,8 @@ use crate::play::Broken;
 use crate::watcher::word;
 use chirpsteeple_tests::bench::session::{Phase, Session, Stream};
 use chirpsteeple_tests::bench::MOST_ENTRIES;
-use chirpsteeple_tests::histories::any::entry;
+use chirpsteeple_tests::histories::any::{asked, entry};
 use chirpsteeple_tests::words::INFO;
-
-/// An entry that asks for this page to be exported.
-pub fn asked(page: u64) -> u64 {
-    1 << 52 | page << 12
-}
 
 impl History<'_, '_> {
     /// A scan of all pages or of a part, with room for all or for few.
@@ -66,7 +61,7 @@ impl History<'_, '_> {
         Ok(())
     }
 
-    fn budget(&mut self, whole: u64) -> u64 {
+    pub(super) fn budget(&mut self, whole: u64) -> u64 {
         if self.random.one_in(2) {
             u64::MAX
         } else {
@@ -94,7 +89,7 @@ impl History<'_, '_> {
     }
 
     /// A list for any pages, of which it may have one twice, with some entries that are anything; not shorter than is said.
-    fn any_list(&mut self, least: u64) -> Vec<u64> {
+    pub(super) fn any_list(&mut self, least: u64) -> Vec<u64> {
         let length = least.max(1 + self.random.below(2 * self.pages.min(4)));
         (0..length).map(|_| self.any_entry()).collect()
     }
@@ -132,9 +127,14 @@ impl History<'_, '_> {
     }
 
     fn export_on(&mut self, stream: usize, resume: u64, of_first: u64, of_last: u64) -> Result<(), Broken> {
-        let [_, first, hpa, _, last] = INFO;
-        let info = last.with(first.with(hpa.with(0, self.random.word()), of_first), of_last);
+        let info = self.info(of_first, of_last);
         let budget = self.budget(of_last - of_first + 1);
         self.call("export", &[stream as u64, resume, info, budget]).map(drop)
+    }
+
+    /// An info word with any HPA.
+    pub(super) fn info(&mut self, of_first: u64, of_last: u64) -> u64 {
+        let [_, first, hpa, _, last] = INFO;
+        last.with(first.with(hpa.with(0, self.random.word()), of_first), of_last)
     }
 }

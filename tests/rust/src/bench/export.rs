@@ -1,30 +1,11 @@
 //! 'Export of a list'.
 
 use super::codes::*;
+use super::lists::{in_turn, info_back, invalid, malformed, operation, page_of, part, status, told};
 use super::record::Record;
 use super::session::{Phase, Session, Stream};
-use super::{refusal, Answer, MOST_ENTRIES};
-use crate::words::{ENTRY, INFO};
-
-/// An entry's STATUS.
-pub mod status {
-    pub const SUCCESS: u64 = 0;
-    pub const SKIPPED: u64 = 1;
-    pub const BEYOND_THE_TABLE: u64 = 2;
-    pub const STATE_INCORRECT: u64 = 4;
-    pub const NOT_TRACKED: u64 = 5;
-    pub const MIGRATED_THIS_EPOCH: u64 = 7;
-    pub const INVALID: u64 = 15;
-    pub const DIRTY: u64 = 17;
-}
-
-/// What an entry's OPERATION says on the way out that it did.
-pub mod operation {
-    pub const NONE: u64 = 0;
-    pub const MIGRATE: u64 = 1;
-    pub const CANCEL: u64 = 2;
-    pub const REMIGRATE: u64 = 3;
-}
+use super::{refusal, Answer};
+use crate::words::ENTRY;
 
 /// The phases that it comes in.
 pub const PHASES: [Phase; 2] = [Phase::Live, Phase::Blackout];
@@ -57,14 +38,11 @@ pub fn export(
         Ok(progress) => progress,
         Err(code) => return Answer::plain(code),
     };
-    let mut left = operands.budget;
-    while !progress.over() && left > 0 {
-        let index = progress.next as usize;
+    for index in in_turn(progress.next, progress.last, operands.budget) {
         let taken = take(session, table, list[index]);
         list[index] = taken.word;
         buffer[index] = taken.buffer;
         progress.count(&taken);
-        left -= 1;
     }
     session.streams[stream] = progress.stream();
     progress.answer(operands.info)
@@ -72,15 +50,7 @@ pub fn export(
 
 /// The cases of 42 that come before 44.
 fn operand_invalid(session: &Session, list: &[u64], buffer: &[u64], operands: Operands) -> bool {
-    let [format, _, _, zero, last] = INFO;
-    let Operands { stream, info, .. } = operands;
-    stream >= session.created - 1
-        || list.is_empty()
-        || list.len() > MOST_ENTRIES
-        || buffer.len() != list.len()
-        || format.of(info) != 0
-        || zero.of(info) != 0
-        || last.of(info) >= list.len() as u64
+    operands.stream >= session.created - 1 || buffer.len() != list.len() || invalid(list, operands.info)
 }
 
 /// How far an operation has come over all its calls.
@@ -93,8 +63,7 @@ struct Progress {
 
 /// Where the call goes on, or 44, or the 42 that comes after it.
 fn progress(stream: Stream, operands: Operands) -> Result<Progress, u64> {
-    let [_, first, _, _, last] = INFO;
-    let (first, last) = (first.of(operands.info), last.of(operands.info));
+    let (first, last) = part(operands.info);
     let resume = operands.resume;
     match stream {
         Stream::Interrupted { next, last: then, errors, data } if resume && (next, then) == (first, last) => {
@@ -126,8 +95,7 @@ impl Progress {
     }
 
     fn answer(&self, info: u64) -> Answer {
-        let [_, first, ..] = INFO;
-        let info = first.with(info, self.next % 512);
+        let info = info_back(info, self.next);
         if !self.over() {
             return Answer { info, ..Answer::plain(INTERRUPTED) };
         }
@@ -174,16 +142,10 @@ fn take(session: &Session, table: &mut [u64], word: u64) -> Taken {
     }
 }
 
-fn page_of(word: u64) -> u64 {
-    let [_, _, _, _, _, _, gpa, ..] = ENTRY;
-    gpa.of(word)
-}
-
 /// The record of the entry's page, or the status that says why it is not exported.
 fn exportable(session: &Session, table: &[u64], word: u64) -> Result<Record, u64> {
-    let [level, _, _, reserved5, _, mig_type, _, operation, reserved54, _, reserved61] = ENTRY;
-    let zero = [level, reserved5, mig_type, reserved54, reserved61];
-    if zero.iter().any(|run| run.of(word) != 0) || operation.of(word) >= 2 {
+    let [_, _, _, _, _, _, _, operation, ..] = ENTRY;
+    if malformed(word) || operation.of(word) >= 2 {
         return Err(status::INVALID);
     }
     if operation.of(word) == 0 {
@@ -214,7 +176,7 @@ fn exportable(session: &Session, table: &[u64], word: u64) -> Result<Record, u64
 
 /// The entry on the way out.
 fn out(word: u64, done: u64, pends: bool, found: u64) -> u64 {
-    let [_, pending, state, _, l2_map, _, _, operation, _, status, _] = ENTRY;
+    let [_, pending, state, _, l2_map, ..] = ENTRY;
     let word = l2_map.with(state.with(word, 0), 0);
-    status.with(operation.with(pending.with(word, pends as u64), done), found)
+    told(pending.with(word, pends as u64), done, found)
 }

@@ -51,6 +51,21 @@ fn on_page(table: &mut [u64], page: u64, strange: u64, change: impl Fn(Page) -> 
     }
 }
 
+/// Any of these calls but write. While Idle, a page in a state of a migration, in which an abort left it, is 45 until RESTORE has brought it back.
+fn on_settled_page(
+    session: &Session,
+    table: &mut [u64],
+    page: u64,
+    strange: u64,
+    change: impl Fn(Page) -> Result<Page, u64>,
+) -> Answer {
+    let left = |record: Record| session.phase == Phase::Idle && matches!(record.state, 24..=27 | 29..=31);
+    on_page(table, page, strange, |found| match left(found.record) {
+        true => Err(EPT_ENTRY_STATE_INCORRECT),
+        false => change(found),
+    })
+}
+
 pub fn write(session: &mut Session, table: &mut [u64], page: u64, mark: u64) -> Answer {
     if let Some(code) = refusal(session, table, &GUEST) {
         return Answer::plain(code);
@@ -75,7 +90,7 @@ pub fn add(session: &mut Session, table: &mut [u64], page: u64) -> Answer {
     if let Some(code) = refusal(session, table, &GUEST) {
         return Answer::plain(code);
     }
-    on_page(table, page, EPT_ENTRY_STATE_INCORRECT, |found| match found.record.state {
+    on_settled_page(session, table, page, EPT_ENTRY_STATE_INCORRECT, |found| match found.record.state {
         0 => Ok(cleared(2, found)),
         _ => Err(EPT_ENTRY_STATE_INCORRECT),
     })
@@ -85,7 +100,7 @@ pub fn accept(session: &mut Session, table: &mut [u64], page: u64) -> Answer {
     if let Some(code) = refusal(session, table, &GUEST) {
         return Answer::plain(code);
     }
-    on_page(table, page, EPT_ENTRY_STATE_INCORRECT, |found| match found.record.state {
+    on_settled_page(session, table, page, EPT_ENTRY_STATE_INCORRECT, |found| match found.record.state {
         2 => Ok(cleared(4, found)),
         29 | 30 => Ok(cleared(25, found)),
         _ => Err(EPT_ENTRY_STATE_INCORRECT),
@@ -99,7 +114,7 @@ pub fn block(session: &mut Session, table: &mut [u64], page: u64) -> Answer {
         Some(code) => return Answer::plain(code),
         None => (),
     }
-    on_page(table, page, EPT_ENTRY_STATE_INCORRECT, |Page { record, mark }| {
+    on_settled_page(session, table, page, EPT_ENTRY_STATE_INCORRECT, |Page { record, mark }| {
         let state = match record.state {
             4 => 1,
             2 => 3,
@@ -123,7 +138,7 @@ pub fn unblock(session: &mut Session, table: &mut [u64], page: u64) -> Answer {
     if let Some(code) = refusal(session, table, &GUEST) {
         return Answer::plain(code);
     }
-    on_page(table, page, GPA_RANGE_NOT_BLOCKED, |Page { record, mark }| {
+    on_settled_page(session, table, page, GPA_RANGE_NOT_BLOCKED, |Page { record, mark }| {
         let state = match record.state {
             1 => 4,
             3 => 2,
@@ -140,7 +155,7 @@ pub fn remove(session: &mut Session, table: &mut [u64], page: u64) -> Answer {
     if let Some(code) = refusal(session, table, &GUEST) {
         return Answer::plain(code);
     }
-    on_page(table, page, GPA_RANGE_NOT_BLOCKED, |found| {
+    on_settled_page(session, table, page, GPA_RANGE_NOT_BLOCKED, |found| {
         let state = match found.record.state {
             1 | 3 => 0,
             26 | 31 => 27,

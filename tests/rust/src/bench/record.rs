@@ -30,6 +30,12 @@ impl Record {
         (plain(word) && BASE.contains(&record.state)).then_some(record)
     }
 
+    /// What start and RESTORE leave of a record: no migration epoch, and a stamp in 1 and 3 alone.
+    pub fn outside_epochs(self) -> Record {
+        let stamp = if matches!(self.state, 1 | 3) { self.stamp } else { 0 };
+        Record { stamp, epoch: 0, ..self }
+    }
+
     pub fn word(self) -> u64 {
         let [state, dirty, cached, _, stamp, epoch, _] = RECORD;
         let at = |r: Run, value: u64| value * 2u64.pow(r.lo);

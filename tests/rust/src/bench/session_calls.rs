@@ -5,12 +5,6 @@ use super::record::{change_all, records, Record};
 use super::session::{Check, Phase, Session};
 use super::{refusal, Answer, LAST_EPOCH};
 
-/// What start and abort leave of a record: no migration epoch, and a stamp in 1 and 3 alone.
-fn outside_epochs(record: Record) -> Record {
-    let stamp = if matches!(record.state, 1 | 3) { record.stamp } else { 0 };
-    Record { stamp, epoch: 0, ..record }
-}
-
 pub fn start(session: &mut Session, table: &mut [u64]) -> Answer {
     if let Some(code) = refusal(session, table, &[Phase::Idle]) {
         return Answer::plain(code);
@@ -18,7 +12,7 @@ pub fn start(session: &mut Session, table: &mut [u64]) -> Answer {
     if !records(table).all(|record| matches!(record, Some(r) if r.state <= 4)) {
         return Answer::plain(EPT_ENTRY_STATE_INCORRECT);
     }
-    change_all(table, outside_epochs);
+    change_all(table, Record::outside_epochs);
     session.phase = Phase::Live;
     session.epoch = 1;
     session.check = Check::RESET;
@@ -41,21 +35,11 @@ pub fn pause(session: &mut Session, table: &mut [u64]) -> Answer {
     Answer::plain(DONE)
 }
 
+/// It changes no record: RESTORE brings the pages back that a migration moved.
 pub fn abort(session: &mut Session, table: &mut [u64]) -> Answer {
     if let Some(code) = refusal(session, table, &[Phase::Live, Phase::Blackout]) {
         return Answer::plain(code);
     }
-    change_all(table, |record| {
-        let state = match record.state {
-            24 | 25 => 4,
-            29 | 30 => 2,
-            26 => 1,
-            31 => 3,
-            27 => 0,
-            state => state,
-        };
-        outside_epochs(Record { state, ..record })
-    });
     session.phase = Phase::Idle;
     session.epoch = 0;
     session.streams = Session::STREAMS_AT_REST;

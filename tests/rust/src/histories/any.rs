@@ -55,8 +55,8 @@ pub fn record(random: &mut Random, session: &Session) -> u64 {
     let stamps = [0, 1, tlb.saturating_sub(1), tlb, LAST_EPOCH.min(tlb + 1), LAST_EPOCH];
     let state = match random.below(12) {
         0 => random.below(256),
-        // The states that start takes.
-        _ if session.phase == Phase::Idle => random.below(5),
+        // The states that start takes, and now and then one in which an abort leaves a page.
+        _ if session.phase == Phase::Idle && !random.one_in(4) => random.below(5),
         _ => random.pick(&BASE),
     };
     let record = Record {
@@ -74,10 +74,16 @@ pub fn record(random: &mut Random, session: &Session) -> u64 {
     record.word() | spare
 }
 
-/// An entry for the page with what the export ignores set at random, or one with a fault; the table has `pages`.
+/// The entry that asks for this page to be exported or restored.
+pub fn asked(page: u64) -> u64 {
+    let [_, _, _, _, _, _, gpa, operation, ..] = ENTRY;
+    operation.with(gpa.with(0, page), 1)
+}
+
+/// An entry for the page with what export ignores set at random, or one with a fault; the table has `pages`.
 pub fn entry(random: &mut Random, page: u64, pages: u64) -> u64 {
     let [level, pending, state, reserved5, l2_map, mig_type, gpa, operation, reserved54, status, reserved61] = ENTRY;
-    let mut word = operation.with(gpa.with(0, page), 1);
+    let mut word = asked(page);
     if random.one_in(3) {
         let ignored = random.word();
         word = [pending, state, l2_map, status].iter().fold(word, |word, run| run.with(word, run.of(ignored)));

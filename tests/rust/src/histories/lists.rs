@@ -42,7 +42,7 @@ impl History {
     }
 
     /// What may come between a scan and its export, or between two steps of an export.
-    fn between(&mut self, random: &mut Random) {
+    pub(super) fn between(&mut self, random: &mut Random) {
         match random.below(12) {
             0 => self.lend_a_list(random),
             1 => self.some_entries(random),
@@ -53,7 +53,7 @@ impl History {
         }
     }
 
-    /// The three calls with a list, over one that is there or is made for them.
+    /// The calls with a list, over one that is there or is made for them.
     pub(super) fn call_with_a_list(&mut self, random: &mut Random, word: &str) {
         if random.one_in(2) {
             self.lend_a_list(random);
@@ -61,6 +61,10 @@ impl History {
         match word {
             "dscan" => self.dscan(random),
             "dcheck" => self.dcheck(random),
+            "restore" => {
+                self.some_entries(random);
+                self.begin_restore(random);
+            }
             _ => {
                 self.some_entries(random);
                 match self.interrupted(random) {
@@ -78,7 +82,7 @@ impl History {
         self.lend_lists(length, buffer);
     }
 
-    fn lend_lists(&mut self, list: u64, buffer: u64) {
+    pub(super) fn lend_lists(&mut self, list: u64, buffer: u64) {
         self.say(format!("list {list}"));
         self.say(format!("buffer {buffer}"));
     }
@@ -160,6 +164,12 @@ impl History {
             _ => (),
         }
         let resume = if resume { random.pick(&[1, 1, 1, 2, u64::MAX]) } else { 0 };
+        let operands = self.part_and_budget(random, first, last);
+        self.say(format!("export {stream} {resume} {operands}"));
+    }
+
+    /// The info word, and a budget of entries.
+    pub(super) fn part_and_budget(&self, random: &mut Random, first: u64, last: u64) -> String {
         let budget = match random.below(4) {
             0 => random.pick(&BOUNDS),
             1 => random.below(4),
@@ -168,7 +178,7 @@ impl History {
         };
         let info = info(random, first, last);
         let info = if random.one_in(4) { info.to_string() } else { format!("{info:#018x}") };
-        self.say(format!("export {stream} {resume} {info} {budget}"));
+        format!("{info} {budget}")
     }
 
     /// A few entries at places that an export is likely to reach.

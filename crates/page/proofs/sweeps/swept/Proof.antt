@@ -1,9 +1,5 @@
 -- Each arm is its clause of the definition.
 use borrow.Author.Needs.{needs}
-use mathlib.Core.Path.{_∙_, ap}
-use Rattle.states.specs.States.{goesBy, numberBy}
-use Rattle.states.specs.Lists.{aborts}
-use Rattle.states.proofs.Laws.{number-by}
 use Rattle.page.specs.Page.{pageOf}
 use Rattle.page.proofs.sweeps.swept.Statement.{statement}
 use Rattle.page.proofs.sweeps.swept.Tie as tie
@@ -26,15 +22,6 @@ enum-told-3 c = search needs
 uncache-requires-2 : tie.Need-uncache-requires-2
 uncache-requires-2 c κs = search needs
 
-enum-told-4 : tie.Need-enum-told-4
-enum-told-4 c = search needs
-
-abort-of-requires : tie.Need-abort-of-requires
-abort-of-requires c κs = search needs
-
-refresh-requires-2 : tie.Need-refresh-requires-2
-refresh-requires-2 c κs = search needs
-
 returns : tie.Need-returns
 returns c = λ e q. rw (c .before .enum-told .given .1) (c .uncache .ensures e)
 
@@ -43,13 +30,6 @@ returns-2 c = λ e q. rw (c .before .enum-told2 .given .1) (c .refresh .ensures 
 
 returns-3 : tie.Need-returns-3
 returns-3 c = λ e q. rw (c .before .enum-told3 .given .1) (c .uncache2 .ensures e)
-
-returns-4 : tie.Need-returns-4
-returns-4 c =
-    let z = pageOf (c .before .before .before .before .args .w) .state in
-    λ e q.
-    rw (c .before .before .enum-told4 .given .1)
-    (c .refresh2 .ensures (goesBy aborts z) e (c .before .abort-of .ensures ∙ ap (numberBy aborts) q ∙ number-by aborts z))
 
 pub swept-spec : {M : Type 1} → statement M
 swept-spec =
@@ -61,10 +41,6 @@ swept-spec =
     refresh-requires
     enum-told-3
     uncache-requires-2
-    enum-told-4
-    abort-of-requires
-    refresh-requires-2
     returns
     returns-2
-    returns-3
-    returns-4)
+    returns-3)

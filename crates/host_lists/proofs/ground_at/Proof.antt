@@ -1,8 +1,8 @@
 -- The definition's fields, each read in its place.
 use borrow.Author.Needs.{needs}
 use Rattle.entry.specs.Entry.{groundOf}
-use Rattle.host_lists.proofs.exports.ground_at.Statement.{statement}
-use Rattle.host_lists.proofs.exports.ground_at.Tie as tie
+use Rattle.host_lists.proofs.ground_at.Statement.{statement}
+use Rattle.host_lists.proofs.ground_at.Tie as tie
 
 phase-at-requires : tie.Need-phase-at-requires
 phase-at-requires c κs = search needs
