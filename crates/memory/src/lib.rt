@@ -65,7 +65,7 @@ fn turn_code(m: Move, phase: Phase, pages: usize, clock: Clock, at: usize, w: Pa
         return codes::OPERAND_INVALID;
     }
     if waits {
-        return codes::EPT_ENTRY_STATE_INCORRECT; // for RESTORE, and a write
+        return codes::EPT_ENTRY_STATE_INCORRECT; // it waits for RESTORE
     }
     moves::move_code(m, w, clock)
 }

@@ -20,14 +20,14 @@ faulty e =
     not (eqb (e .reserved5) 0 && eqb (e .reserved54) 0 && eqb (e .reserved61) 0 && eqb (e .level) 0 && eqb (e .«mig_type») 0 && eqb (e .state) 0)
 
 -- OPERATION 0 or 2: 1 and 3 restore
-abbrev pub idle : Entry → Bool
-idle e = not (eqb (e .operation % 2) operations.restore)
+abbrev pub isNop : Entry → Bool
+isNop e = not (eqb (e .operation % 2) operations.restore)
 
 -- 15, 1, 2; then 4 in 0 to 4, or strange
 abbrev pub restoreTests : Entry → Page → Ground → List Test
 restoreTests e p g =
     faulty e gives statuses.gpaListEntryInvalid
-    ∷ idle e gives statuses.skipped
+    ∷ isNop e gives statuses.skipped
     ∷ leb (g .pages) (e .gpa) gives statuses.septWalkFailed
     ∷ not (left p) gives statuses.septEntryStateIncorrect
     ∷ []

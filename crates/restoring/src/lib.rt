@@ -66,12 +66,12 @@ pub fn take_entry(word: u64, held: u64, w: PageWords, g: Ground) -> Taken
     let e = entries::entry_of(word);
     let faulty = is_faulty(e);
     let left = queries::is_left(w);
-    let idle = e.operation % 2 != operations::RESTORE;
+    let nop = e.operation % 2 != operations::RESTORE;
     let beyond = g.pages <= e.gpa;
     if faulty {
         return fail(word, held, w, statuses::GPA_LIST_ENTRY_INVALID);
     }
-    if idle {
+    if nop {
         return fail(word, held, w, statuses::SKIPPED);
     }
     if beyond {

@@ -9,7 +9,7 @@ use Rattle.words.specs.Statuses as statuses
 use Rattle.refusals.specs.Refusals.{Test, _gives_, firstOf}
 use Rattle.refusals.proofs.Laws.{reached, passed-code}
 use Rattle.page.specs.Page.{pageOf}
-use Rattle.restoring.specs.Restoring.{idle, restoreStatus, restoredOf}
+use Rattle.restoring.specs.Restoring.{isNop, restoreStatus, restoredOf}
 use Rattle.restoring.proofs.take_entry.Statement.{statement}
 use Rattle.restoring.proofs.take_entry.Tie as tie
 
@@ -26,7 +26,7 @@ start c = at-entry c .before
 abbrev tests : tie.After-struct-known3 → List Test
 tests c =
     at-left c .before .is-faulty .result gives statuses.gpaListEntryInvalid
-    ∷ idle (at-entry c .entry-of .result) gives statuses.skipped
+    ∷ isNop (at-entry c .entry-of .result) gives statuses.skipped
     ∷ leb (start c .args .g .pages) (at-entry c .entry-of .result .gpa) gives statuses.septWalkFailed
     ∷ not (at-left c .is-left .result) gives statuses.septEntryStateIncorrect
     ∷ []
