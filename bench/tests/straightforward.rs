@@ -10,7 +10,7 @@ use host_tests::made_by;
 use host_tests::run::run;
 
 /// So many that every code of every call is met.
-const SEEDS: u64 = 40;
+const SEEDS: u64 = 20;
 
 struct Straightforward;
 

@@ -4,7 +4,7 @@ use chirpsteeple_tests::bench::codes::*;
 use chirpsteeple_tests::bench::Answer;
 use host_tests::calls::{Bench, Call, FromDocument, Lent};
 use host_tests::comparison::Comparison;
-use host_tests::run::run;
+use host_tests::run::{part_of, run};
 
 /// What a wrong bench does after the right one.
 type Fault = fn(Call, &Lent, &mut Answer, &mut Lent);
@@ -28,11 +28,18 @@ impl Bench for Wrong {
     }
 }
 
+/// So many find every fault.
+const SEEDS: u64 = 20;
+
 /// What the comparison says of a wrong bench, if it finds that it is.
 fn found(from: usize, fault: Fault) -> Option<String> {
+    found_with(SEEDS, from, fault)
+}
+
+fn found_with(seeds: u64, from: usize, fault: Fault) -> Option<String> {
     let wrong = &mut Wrong { fault, calls: 0, from };
     let mut comparison = Comparison::new(wrong);
-    (0..20).find_map(|seed| run(&mut comparison, seed).err()).map(|difference| difference.to_string())
+    (0..seeds).find_map(|seed| run(&mut comparison, seed).err()).map(|difference| difference.to_string())
 }
 
 fn flip(bytes: &mut [u8], at: usize) {
@@ -67,7 +74,7 @@ fn a_code_in_another_place() {
 
 #[test]
 fn a_right_bench_is_not_found() {
-    assert_eq!(found(1, |_, _, _, _| ()), None);
+    assert_eq!(found_with(part_of(SEEDS), 1, |_, _, _, _| ()), None);
 }
 
 /// Faults that show in few calls, or deep in a history.

@@ -7,6 +7,7 @@ use chirpsteeple_tests::bench::Answer;
 use host_tests::calls::{Bench, Call, FromDocument, Lent};
 use host_tests::guests::{history, SEEDS};
 use host_tests::play::Play;
+use host_tests::run::part_of;
 use host_tests::strays::put;
 use host_tests::watcher::{refused, word};
 
@@ -28,16 +29,16 @@ impl Bench for Wrong {
 }
 
 /// After how many histories a wrong bench was found, and what was said of it.
-fn found(fault: Fault, earning: bool) -> Option<(u64, String)> {
+fn found(seeds: u64, fault: Fault, earning: bool) -> Option<(u64, String)> {
     let wrong = &mut Wrong(fault);
     let mut play = Play::new(wrong);
     let broken = |seed| history(&mut play, seed, earning).err().map(|broken| (seed + 1, broken.to_string()));
-    (0..SEEDS).find_map(broken)
+    (0..seeds).find_map(broken)
 }
 
 fn all_found(faults: &[(&str, Fault)], earning: bool) {
     for (name, fault) in faults {
-        let (histories, said) = found(*fault, earning).unwrap_or_else(|| panic!("not found: {name}"));
+        let (histories, said) = found(SEEDS, *fault, earning).unwrap_or_else(|| panic!("not found: {name}"));
         println!("{name}: history {histories}, {}", said.lines().next().unwrap());
     }
 }
@@ -187,5 +188,5 @@ fn faults_that_withhold_the_token() {
 #[test]
 fn a_right_bench_is_not_found() {
     let right: Fault = |_, _, _, _| ();
-    assert_eq!([false, true].map(|earning| found(right, earning)), [None, None]);
+    assert_eq!([false, true].map(|earning| found(part_of(SEEDS), right, earning)), [None, None]);
 }
