@@ -1,5 +1,7 @@
-//! Measures the library and straightforward Rust side by side, and prints a line for each operation: its name, the library's nanoseconds, Rust's.
+//! Measures the library and straightforward Rust side by side, and prints a line for each operation: its name, the library's nanoseconds, Rust's. Then
+//! the class of state numbers of each kind: the kind, and the nanoseconds a number of `words`, of Rust's `match` and of its static table.
 
+use chirpsteeple_bench::classes::{kinds, SUMS};
 use chirpsteeple_bench::guests::Guest;
 use chirpsteeple_bench::rows::rows;
 use chirpsteeple_bench::work::{keep, Answer, Meter, Work};
@@ -14,6 +16,31 @@ const TURN: Duration = Duration::from_millis(20);
 
 fn main() {
     rows(&mut Times);
+    for (kind, states) in kinds() {
+        let sum = SUMS[0](&states);
+        let nanoseconds = quickest(|| {
+            SUMS.map(|summed| {
+                let begun = Instant::now();
+                let summed = summed(&states);
+                let time = begun.elapsed();
+                assert_eq!(summed, sum, "{kind}: sums");
+                time
+            })
+        })
+        .map(|time| time.as_nanos() as f64 / states.len() as f64);
+        println!("{kind}\t{:.2}\t{:.2}\t{:.2}", nanoseconds[0], nanoseconds[1], nanoseconds[2]);
+    }
+}
+
+/// The quickest time of each side, over samples that have a time of each.
+fn quickest<const SIDES: usize>(mut sample: impl FnMut() -> [Duration; SIDES]) -> [Duration; SIDES] {
+    let mut quickest = [Duration::MAX; SIDES];
+    let begun = Instant::now();
+    while begun.elapsed() < TURN {
+        let times = sample();
+        quickest = std::array::from_fn(|side| times[side].min(quickest[side]));
+    }
+    quickest
 }
 
 /// Times of the library and of straightforward Rust on the same guests, in turns.
@@ -28,15 +55,13 @@ impl Meter for Times {
     ) {
         work.compare(&library, &rust);
         let (mut ours, mut theirs) = (work.given.clone(), work.given.clone());
-        let mut quickest = [Duration::MAX; 2];
-        let begun = Instant::now();
-        while begun.elapsed() < TURN {
+        let calls = (work.given.len() as u64 * work.steps) as f64;
+        let [library, rust] = quickest(|| {
             let times = [sample(&work, &mut ours, &library), sample(&work, &mut theirs, &rust)];
             assert!(ours == theirs, "{}: bytes", work.name);
-            quickest = std::array::from_fn(|side| times[side].min(quickest[side]));
-        }
-        let calls = (work.given.len() as u64 * work.steps) as f64;
-        let [library, rust] = quickest.map(|time| time.as_nanos() as f64 / calls);
+            times
+        })
+        .map(|time| time.as_nanos() as f64 / calls);
         println!("{}\t{library:.1}\t{rust:.1}", work.name);
     }
 }

@@ -1,6 +1,8 @@
-//! For bench/count: makes each row's calls once, between two marks that are seen in the emulator's log, first those of the library, then those of
-//! straightforward Rust. Prints a line for each row: how many calls each of the two made, and its name.
+//! For bench/count. `count calls` makes each row's calls once, between two marks that are seen in the emulator's log, first those of the library, then
+//! those of straightforward Rust, and prints a line for each row: how many calls each of the two made, and its name. `count classes` does so with the
+//! class of state numbers, by `words`, by Rust's `match` and by its static table: how many numbers, and their kind.
 
+use chirpsteeple_bench::classes::{kinds, SUMS};
 use chirpsteeple_bench::guests::Guest;
 use chirpsteeple_bench::rows::rows;
 use chirpsteeple_bench::work::{keep, Answer, Meter, Work};
@@ -9,7 +11,23 @@ use chirpsteeple_bench::work::{keep, Answer, Meter, Work};
 const CALLS: u64 = 16;
 
 fn main() {
-    rows(&mut Counted);
+    match std::env::args().nth(1).as_deref() {
+        Some("calls") => rows(&mut Counted),
+        Some("classes") => classes(),
+        _ => panic!("usage: count calls|classes"),
+    }
+}
+
+fn classes() {
+    for (kind, states) in kinds() {
+        for sum in SUMS {
+            chirpsteeple_mark();
+            let summed = sum(&states);
+            chirpsteeple_mark();
+            assert_eq!(summed, SUMS[0](&states), "{kind}: sums");
+        }
+        println!("{}\t{kind}", states.len());
+    }
 }
 
 struct Counted;
