@@ -1,4 +1,4 @@
--- The four classes part the numbers between them; and what a `match` with ranges shows of its number, by tests that antt computes.
+-- The four classes part the numbers between them, by tests that antt computes.
 use mathlib.Core.Path.{_≡_, refl, sym, subst}
 use mathlib.Core.Bool.{Bool, true, false, cond, not, _&&_, _||_}
 use mathlib.Core.List.{List, [], _∷_}
@@ -7,8 +7,6 @@ use Prim.Native.Nat.{ℕ, zero, suc, _+_, _≤_, _<_}
 use native.Mathlib.Nat.{eq-or-lt-of-le}
 use native.Mathlib.Omega.{arith}
 use lib.Dec.{T, eqb, eqb→eq}
-use mir.Val.{hasKey}
-use types.Run.{OneOf, hit}
 use Rattle.words.specs.declared.classes.Class.{Class}
 use Rattle.words.specs.declared.classes.Class.the-variants.{Free, NonLeaf, Leaf, Unlisted}
 use Rattle.words.specs.Class.{frees, nonLeaves, leaves, isIn, stands, classOf}
@@ -85,32 +83,3 @@ class-stands Unlisted n t = go (isIn n frees) (isIn n nonLeaves) (isIn n leaves)
     go false true c u = absurd u
     go false false true u = absurd u
     go false false false u = refl
-
--- ---- the arms of a match
-
--- the number is one of an arm's keys
-pub keyed : (k : Class) (ks : List ℕ) (s : ℕ) → T (every (stands k) ks) → OneOf ks s → k ≡ classOf s
-keyed k [] s t o = absurd o
-keyed k (x ∷ []) s t e = class-stands k s (subst (λ (m : ℕ). T (stands k m)) (sym e) (both (stands k x) true t .0))
-keyed k (x ∷ y ∷ ks) s t (inl e) = class-stands k s (subst (λ (m : ℕ). T (stands k m)) (sym e) (both (stands k x) (every (stands k) (y ∷ ks)) t .0))
-keyed k (x ∷ y ∷ ks) s t (inr o) = keyed k (y ∷ ks) s (both (stands k x) (every (stands k) (y ∷ ks)) t .1) o
-
--- the number is none of the keys, and lies in a range
-abbrev pub None : List (List ℕ) → ℕ → Type 0
-None [] s = Unit
-None (ks ∷ kss) s = None kss s × (OneOf ks s → ⊥)
-
-abbrev pub keyOr : List (List ℕ) → (ℕ → Bool) → ℕ → Bool
-keyOr [] f n = f n
-keyOr (ks ∷ kss) f n = hasKey ks n || keyOr kss f n
-
-no-key : (kss : List (List ℕ)) (f : ℕ → Bool) (s : ℕ) → None kss s → T (keyOr kss f s) → T (f s)
-no-key [] f s a t = t
-no-key (ks ∷ kss) f s a t = no-key kss f s (a .0) (go (hasKey ks s) (λ k. a .1 (hit ks s k)) t)
-  where
-    go : (b : Bool) → (T b → ⊥) → T (b || keyOr kss f s) → T (keyOr kss f s)
-    go true n u = absurd (n tt)
-    go false n u = u
-
-pub ranged : (k : Class) (kss : List (List ℕ)) (lo n s : ℕ) → T (passes (keyOr kss (stands k)) lo n) → None kss s → lo ≤ s → s < lo + n → k ≡ classOf s
-ranged k kss lo n s t a h l = class-stands k s (no-key kss (stands k) s a (passes-at (keyOr kss (stands k)) lo n s t h l))

@@ -12,11 +12,22 @@ pub enum Class {
 pub fn class_of(s: u8) -> Class
     ensures { λ r. ⌜ r ≡ classOf s ⌝ }
 {
-    match s {
-        0 | 5 | 6 | 27 | 28 | 64 => Class::Free,
-        129 | 132 | 193 | 196 => Class::NonLeaf,
-        1..=4 | 8 | 9 | 11 | 12 | 16 | 17 | 19 | 20 | 24..=26 | 29..=34 | 65 | 68 | 96 | 97 =>
-            Class::Leaf,
+    // A table with two bits for each number, 32 numbers to a row, the lowest number in the lowest bits. The compiler makes one load of this match: a
+    // `const` array would be built at each call.
+    let row: u64 = match s / 32 {
+        0 => 0xa82a_feba_feba_c2a8,
+        1 => 0xffff_ffff_ffff_ffea,
+        2 => 0xffff_ffff_ffff_fef8,
+        3 => 0xffff_ffff_ffff_fffa,
+        4 => 0xffff_ffff_ffff_fdf7,
+        5 => 0xffff_ffff_ffff_ffff,
+        6 => 0xffff_ffff_ffff_fdf7,
+        _ => 0xffff_ffff_ffff_ffff,
+    };
+    match (row >> (2 * (s % 32))) % 4 {
+        0 => Class::Free,
+        1 => Class::NonLeaf,
+        2 => Class::Leaf,
         _ => Class::Unlisted,
     }
 }
