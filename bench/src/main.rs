@@ -19,9 +19,9 @@ fn main() {
     for (kind, states) in kinds() {
         let sum = SUMS[0](&states);
         let nanoseconds = quickest(|| {
-            SUMS.map(|summed| {
+            SUMS.map(|side| {
                 let begun = Instant::now();
-                let summed = summed(&states);
+                let summed = side(&states);
                 let time = begun.elapsed();
                 assert_eq!(summed, sum, "{kind}: sums");
                 time
