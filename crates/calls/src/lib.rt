@@ -1,4 +1,6 @@
 // Every call of the bench as one data type, by shape, so that what holds of all calls, or of all calls of a shape, is said once.
+
+#![tactic(auto)]
 ghost use Rattle.std.specs.Prelude.{◌≡◌, []};
 ghost use Rattle.calls.specs.Calls.{without_numbers, scan_numbers, export_numbers, list_numbers, effect_of};
 
@@ -10,7 +12,7 @@ use restore::ListAnswer;
 use scan::ScanAnswer;
 use session::{Answer, Session};
 
-#[derive(Drop)]
+#[derive(Clone, Copy)]
 pub enum Call {
     New {
         created: u64,
@@ -50,7 +52,7 @@ pub enum Call {
 }
 
 // A call's answer in numbers. Those that a call does not give are 0, and so are all but the code of a refusal and the page of 53 and 54.
-#[derive(Drop)]
+#[derive(Clone, Copy)]
 pub struct Returned {
     pub code: u64,
     // The page in the way of a start token.

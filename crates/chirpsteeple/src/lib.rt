@@ -1,4 +1,6 @@
 // The eighteen functions that C, Rust and Python call, on numbers and byte slices. No caller is asked to have checked anything.
+
+#![tactic(auto)]
 ghost use Rattle.std.specs.Prelude.{◌≡◌};
 ghost use Rattle.host.specs.Host.{Left};
 ghost use Rattle.chirpsteeple.specs.Functions.{new_left, write_left, add_left, accept_left, block_left, unblock_left, remove_left};
@@ -14,14 +16,14 @@ use page::sweeps::Sweep;
 
 // What the start token answers; the page is that in the way of 53 and 54.
 #[repr(C)]
-#[derive(Drop)]
+#[derive(Clone, Copy)]
 pub struct ChirpTokenAnswer {
     pub code: u64,
     pub page: u64,
 }
 
 #[repr(C)]
-#[derive(Drop)]
+#[derive(Clone, Copy)]
 pub struct ChirpScanAnswer {
     pub code: u64,
     pub next: u64,
@@ -30,7 +32,7 @@ pub struct ChirpScanAnswer {
 }
 
 #[repr(C)]
-#[derive(Drop)]
+#[derive(Clone, Copy)]
 pub struct ChirpExportAnswer {
     pub code: u64,
     pub info: u64,
@@ -40,7 +42,7 @@ pub struct ChirpExportAnswer {
 
 // What RESTORE answers.
 #[repr(C)]
-#[derive(Drop)]
+#[derive(Clone, Copy)]
 pub struct ChirpListAnswer {
     pub code: u64,
     pub info: u64,

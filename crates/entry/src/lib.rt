@@ -1,4 +1,6 @@
 // One entry of a list that is exported: what becomes of its word and of its page, as a pure step on the ground that the whole call stands on.
+
+#![tactic(auto)]
 ghost use Rattle.std.specs.Prelude.{◌≡◌, cond, false};
 ghost use Rattle.states.specs.States.{number_of, goes_by};
 ghost use Rattle.states.specs.Lists.{exports};
@@ -11,7 +13,7 @@ use words::entries::Entry;
 use words::{entries, operations, statuses};
 
 // What an export is made against.
-#[derive(Drop)]
+#[derive(Clone, Copy)]
 pub struct Ground {
     pub phase: Phase,
     pub clock: Clock,
@@ -34,7 +36,7 @@ pub fn ground_of(s: Session) -> Ground
     }
 }
 
-#[derive(Drop)]
+#[derive(Clone, Copy)]
 pub struct Taken {
     pub status: u64,
     // The entry as it comes back.

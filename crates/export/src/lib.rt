@@ -1,4 +1,6 @@
 // Export of a list: on a stream that remembers where it was interrupted, with its counts.
+
+#![tactic(auto)]
 ghost use Rattle.std.specs.Prelude.{◌≡◌, ◌+◌, ◌≤◌};
 ghost use Rattle.session.specs.Formed.{behind, last_entry};
 ghost use Rattle.export.specs.Export.{resumable, export_asks, begun_by, mac_pages, ended_by, export_out};
@@ -12,7 +14,7 @@ use words::infos::Info;
 use words::{codes, infos};
 
 // What an export answers.
-#[derive(Drop)]
+#[derive(Clone, Copy)]
 pub struct ExportAnswer {
     pub code: u64,
     pub info: u64,
@@ -115,7 +117,7 @@ fn mac_pages(last: u64) -> u64
 }
 
 // How a call ends: its numbers, and what its stream does then.
-#[derive(Drop)]
+#[derive(Clone, Copy)]
 pub struct Ended {
     pub code: u64,
     pub info: u64,

@@ -41,7 +41,7 @@ fn visit(
 }
 
 // What a look comes to: why the scan stops at the page, or 0, and how many words are then written.
-#[derive(Drop)]
+#[derive(Clone, Copy)]
 struct Turn {
     code: u64,
     put: usize,

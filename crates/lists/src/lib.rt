@@ -1,4 +1,6 @@
 // A list, whichever call takes it: what is asked of it and of its info word, its entries in turn, and the info word as it comes back.
+
+#![tactic(auto)]
 ghost use Rattle.std.specs.Prelude.{◌≡◌};
 ghost use Rattle.words.specs.Info.{info_word, with_first};
 ghost use Rattle.refusals.specs.Refusals.{first_of};
@@ -15,7 +17,7 @@ use words::{codes, infos};
 pub mod runs;
 
 // The calls that take a list: each has its own step for one entry, and they share all else.
-#[derive(Drop)]
+#[derive(Clone, Copy)]
 pub enum Kind {
     Export,
     Restore,

@@ -10,7 +10,7 @@ use entry::{Ground, Taken};
 use words::{entries, statuses};
 
 // How far an operation has come, over all its calls.
-#[derive(Drop)]
+#[derive(Clone, Copy)]
 pub struct Progress {
     pub next: u64,
     pub errors: u64,

@@ -1,4 +1,7 @@
 // Ways in for measuring alone, to what the C interface does not show: in no header, and not in the library. `bench/` links them.
+
+#![tactic(auto)]
+
 ghost use Rattle.std.specs.Prelude.{◌≡◌};
 ghost use Rattle.measured.specs.Measured.{number_of, classes_sum};
 

@@ -1,4 +1,6 @@
 // New, and the calls on one page.
+
+#![tactic(auto)]
 ghost use Rattle.std.specs.Prelude.{◌≡◌};
 ghost use Rattle.refusals.specs.Refusals.{first_of};
 ghost use Rattle.page.specs.Page.{page_of};
@@ -67,7 +69,7 @@ fn turn_code(m: Move, phase: Phase, pages: usize, clock: Clock, at: usize, w: Pa
 }
 
 // What a call on one page comes to: its code, and the page's two words if that is 0.
-#[derive(Drop)]
+#[derive(Clone, Copy)]
 pub struct Turn {
     pub code: u64,
     pub words: PageWords,

@@ -1,4 +1,6 @@
 // The calls on every page, the calls on the session alone, and in its own module the start token.
+
+#![tactic(auto)]
 ghost use Rattle.std.specs.Prelude.{◌≡◌, ◌&&◌};
 ghost use Rattle.migration.specs.Migration.{sweep_when, stops_at, stopped, sweep_verdict, on_all};
 ghost use Rattle.migration.specs.Migration.{alone_when, alone_verdict, alone_answer};
@@ -26,7 +28,7 @@ pub fn sweep_when(k: Sweep) -> When
 }
 
 // What in the table stops a call: nothing, or a page of a kind.
-#[derive(Drop)]
+#[derive(Clone, Copy)]
 pub enum Stops {
     Never,
     At { kind: Sought },
@@ -114,7 +116,7 @@ pub fn on_all(k: Sweep, s: Session, table: &mut [u64]) -> Answer
 
 // ---- the calls on the session alone, which ask of the table its length
 
-#[derive(Drop)]
+#[derive(Clone, Copy)]
 pub enum Alone {
     NewEpoch,
     Reset,

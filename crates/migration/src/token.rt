@@ -10,7 +10,7 @@ use session::changes::Change;
 use session::{Phase, Session, When, changes};
 use words::codes;
 
-#[derive(Drop)]
+#[derive(Clone, Copy)]
 pub enum Token {
     Granted,
     Refused { code: u64 },
@@ -18,7 +18,7 @@ pub enum Token {
     InTheWay { code: u64, page: usize },
 }
 
-#[derive(Drop)]
+#[derive(Clone, Copy)]
 pub struct TokenAnswer {
     pub token: Token,
     pub session: Session,

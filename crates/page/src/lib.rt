@@ -2,6 +2,8 @@
 // work on them.
 //
 // Nothing here takes a page apart into a struct of its own: the state's number is read off the record, and fields of the record's word are set.
+
+#![tactic(auto)]
 ghost use Rattle.std.specs.Prelude.{◌≡◌};
 ghost use Rattle.records.specs.Record.{record_of};
 ghost use Rattle.states.specs.States.{state_of};
@@ -15,14 +17,14 @@ pub mod moves;
 pub mod sweeps;
 
 // Word 0 is the page's record, word 1 its mark.
-#[derive(Drop)]
+#[derive(Clone, Copy)]
 pub struct PageWords {
     pub word: u64,
     pub mark: u64,
 }
 
 // What decides whether a page's old translations are gone: the TLB epoch, with which a page is also stamped.
-#[derive(Drop)]
+#[derive(Clone, Copy)]
 pub struct Clock {
     pub tlb: u64,
 }

@@ -11,7 +11,7 @@ use records::Record;
 use words::codes;
 
 // A call on one page, with what it brings.
-#[derive(Drop)]
+#[derive(Clone, Copy)]
 pub enum Move {
     Write { mark: u64 },
     Add,

@@ -55,7 +55,7 @@ fn gives_54(w: PageWords) -> bool
 }
 
 // What a call looks for in the whole table.
-#[derive(Drop)]
+#[derive(Clone, Copy)]
 pub enum Sought {
     Blocked,
     Unstartable,

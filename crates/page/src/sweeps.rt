@@ -33,7 +33,7 @@ fn refresh(w: PageWords, to: u8) -> PageWords
 }
 
 // A call on every page.
-#[derive(Drop)]
+#[derive(Clone, Copy)]
 pub enum Sweep {
     Track,
     Start,

@@ -1,10 +1,12 @@
 // Word 0 of a page record: seven runs that fill the word. Word 1, the mark, is one number and has no runs.
+
+#![tactic(auto)]
 ghost use Rattle.std.specs.Prelude.{◌≡◌};
 ghost use Rattle.words.specs.Runs.{low};
 ghost use Rattle.records.specs.Record.{record_of, record_word, RecordFits, plain};
 ghost use Rattle.records.specs.Record.{with_state, with_dirty, with_cached, with_stamp, with_migrated};
 
-#[derive(Drop)]
+#[derive(Clone, Copy)]
 pub struct Record {
     pub state: u8,
     pub dirty: bool,

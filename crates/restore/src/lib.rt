@@ -1,4 +1,6 @@
 // RESTORE of a list: pages that a migration left go back to the states outside one.
+
+#![tactic(auto)]
 ghost use Rattle.std.specs.Prelude.{◌≡◌};
 ghost use Rattle.session.specs.Formed.{behind};
 ghost use Rattle.restore.specs.Restore.{restore_asks, begun_at, ended_at, RestoreOutcome, restore_out};
@@ -9,7 +11,7 @@ use session::{Session, When};
 use words::infos::Info;
 use words::{codes, infos};
 
-#[derive(Drop)]
+#[derive(Clone, Copy)]
 pub struct ListAnswer {
     pub code: u64,
     pub info: u64,
@@ -47,7 +49,7 @@ pub fn begin(x: Info) -> Progress
 }
 
 // How a call ends.
-#[derive(Drop)]
+#[derive(Clone, Copy)]
 pub struct Ended {
     pub code: u64,
     pub info: u64,

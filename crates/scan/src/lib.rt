@@ -1,4 +1,6 @@
 // The scans: DSCAN looks for pages to export in a part of the table while the guest runs, DCHECK in the rest of it once the guest is paused.
+
+#![tactic(auto)]
 ghost use Rattle.std.specs.Prelude.{◌≡◌, cond, true, ◌+◌, ◌*◌, ◌/◌, ◌≤◌, ◌<◌, length, set};
 ghost use Rattle.page.specs.Page.{page_of, on_words};
 ghost use Rattle.table.specs.Table.{most_pages, put_at};
@@ -16,7 +18,7 @@ use words::codes;
 pub mod looks;
 
 // What a scan goes by.
-#[derive(Drop)]
+#[derive(Clone, Copy)]
 pub struct Scan {
     // The number of its first page.
     pub first: usize,
@@ -27,7 +29,7 @@ pub struct Scan {
 }
 
 // How a scan ended: the page that it stands at, and how many words it has written.
-#[derive(Drop)]
+#[derive(Clone, Copy)]
 pub struct Scanned {
     pub code: u64,
     pub next: usize,
@@ -35,7 +37,7 @@ pub struct Scanned {
 }
 
 // What a scan answers: the next page, and the first and the last entry of its list.
-#[derive(Drop)]
+#[derive(Clone, Copy)]
 pub struct ScanAnswer {
     pub code: u64,
     pub next: usize,
@@ -159,7 +161,7 @@ fn scan_range(table: &mut [u64], list: &mut [u64], count: usize, scan: Scan) -> 
 // ---- the answer
 
 // The first and the last entry of a list.
-#[derive(Drop)]
+#[derive(Clone, Copy)]
 pub struct Written {
     pub first: u64,
     pub last: u64,

@@ -55,7 +55,7 @@ pub(crate) fn changed(mut s: Session, l: Line) -> Session {
 }
 
 // How many words of each space are lent, if it has so many.
-#[derive(Drop)]
+#[derive(Clone, Copy)]
 pub(crate) struct Lent {
     pub table: usize,
     pub list: usize,

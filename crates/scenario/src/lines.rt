@@ -7,7 +7,7 @@ use crate::names;
 const LARGEST: u64 = 0xffff_ffff_ffff_ffff;
 
 // What has been read of a line.
-#[derive(Drop)]
+#[derive(Clone, Copy)]
 pub(crate) struct Line {
     // What follows does not count.
     pub over: bool,

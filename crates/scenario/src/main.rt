@@ -1,4 +1,6 @@
 // Plays scenarios: reads calls, and what the host does to session and words between them, and prints what each call leaves.
+
+#![tactic(auto)]
 mod hand;
 mod lines;
 mod names;

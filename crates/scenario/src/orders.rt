@@ -6,7 +6,7 @@ use migration::Alone;
 use page::moves::Move;
 use page::sweeps::Sweep;
 
-#[derive(Drop)]
+#[derive(Clone, Copy)]
 pub(crate) enum Order {
     Call(Call),
     // A change of the session.

@@ -7,7 +7,7 @@ use crate::{Check, Phase, Session, streams};
 use page::Clock;
 use words::codes;
 
-#[derive(Drop)]
+#[derive(Clone, Copy)]
 pub enum Change {
     Nothing,
     ToPhase { phase: Phase },
@@ -20,7 +20,7 @@ pub enum Change {
 }
 
 // What a call comes to that has no numbers of its own: its code, and with 0 what it changes.
-#[derive(Drop)]
+#[derive(Clone, Copy)]
 pub struct Verdict {
     pub code: u64,
     pub change: Change,

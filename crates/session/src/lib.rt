@@ -1,4 +1,6 @@
 // The session: what a bench knows beside its table, when it is well-formed, and the gate that every call but New passes first.
+
+#![tactic(auto)]
 ghost use Rattle.std.specs.Prelude.{◌≡◌, []};
 ghost use Rattle.refusals.specs.Refusals.{first_of};
 ghost use Rattle.session.specs.Session.{among, phases_of, comes_in, new_session};
@@ -14,7 +16,7 @@ use page::Clock;
 use page::sweeps::Sweep;
 use words::codes;
 
-#[derive(Drop)]
+#[derive(Clone, Copy)]
 pub enum Phase {
     Idle,
     Live,
@@ -23,7 +25,7 @@ pub enum Phase {
 }
 
 // How far the check has come.
-#[derive(Drop)]
+#[derive(Clone, Copy)]
 pub struct Check {
     pub place: usize,
     pub complete: bool,
@@ -31,7 +33,7 @@ pub struct Check {
 }
 
 // What is constant since New.
-#[derive(Drop)]
+#[derive(Clone, Copy)]
 pub struct Fixed {
     pub pages: usize,
     // How many streams were created, N; an index below N−1 is usable (000, 3.1.3.1).
@@ -39,7 +41,7 @@ pub struct Fixed {
 }
 
 // Phase and migration epoch, and parts of which a call changes one or two.
-#[derive(Drop)]
+#[derive(Clone, Copy)]
 pub struct Session {
     pub phase: Phase,
     pub epoch: u64,
@@ -50,7 +52,7 @@ pub struct Session {
 }
 
 // What a call answers that has no numbers of its own.
-#[derive(Drop)]
+#[derive(Clone, Copy)]
 pub struct Answer {
     pub code: u64,
     pub session: Session,
@@ -64,7 +66,7 @@ pub const FEWEST_CREATED: u64 = 2;
 pub const MOST_CREATED: u64 = 9;
 
 // Which calls come in a phase.
-#[derive(Drop)]
+#[derive(Clone, Copy)]
 pub struct Comes {
     pub guest: bool,
     pub idle: bool,
@@ -149,7 +151,7 @@ pub fn is_formed(s: Session, len: usize) -> bool
 }
 
 // The phases in which a call comes.
-#[derive(Drop)]
+#[derive(Clone, Copy)]
 pub enum When {
     Guest,
     Idle,

@@ -6,7 +6,7 @@ ghost use Rattle.session.specs.Formed.{work_resting, work_in_range, usable_of, s
 use crate::Session;
 
 // What a stream is doing. An interrupted export has taken the entries before `next`, of 0 to `last`.
-#[derive(Drop)]
+#[derive(Clone, Copy)]
 pub enum Work {
     AtRest,
     Interrupted {
@@ -18,7 +18,7 @@ pub enum Work {
     },
 }
 
-#[derive(Drop)]
+#[derive(Clone, Copy)]
 pub struct Stream {
     pub work: Work,
 }
@@ -101,7 +101,7 @@ fn is_in_range(work: Work) -> bool
 }
 
 // What there is among the streams: an interrupted one, one outside its ranges, an interrupted one that is unusable.
-#[derive(Drop)]
+#[derive(Clone, Copy)]
 pub struct Found {
     pub any: bool,
     pub outside: bool,

@@ -1,5 +1,7 @@
 // The table that the caller lends, two words a page, as pages: each can be read, written and looked for, and all of them moved or cleared. Every page
 // number is taken: past the end there are zeros, and nothing is written there.
+
+#![tactic(auto)]
 ghost use Rattle.std.specs.Prelude.{◌≡◌, length, replicate};
 ghost use Rattle.page.specs.Page.{on_words, sought};
 ghost use Rattle.page.specs.Sweeps.{swept_by};

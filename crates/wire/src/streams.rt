@@ -8,7 +8,7 @@ use crate::{bytes, tables};
 use session::streams::{LAST_ENTRY, STREAM_PLACES, Work};
 use session::{Session, streams};
 
-#[derive(Drop)]
+#[derive(Clone, Copy)]
 pub struct StreamWords {
     pub flag: u64,
     pub next: u64,

@@ -2,7 +2,7 @@
 use crate::{print, shown};
 
 // What has been read of a line.
-#[derive(Drop)]
+#[derive(Clone, Copy)]
 pub(crate) struct Line {
     // How many words have begun.
     pub count: u64,

@@ -2,7 +2,7 @@
 ghost use Rattle.std.specs.Prelude.{◌≡◌};
 ghost use Rattle.words.specs.Class.{class_of};
 
-#[derive(Drop)]
+#[derive(Clone, Copy)]
 pub enum Class {
     Free,
     NonLeaf,

@@ -4,7 +4,7 @@ ghost use Rattle.words.specs.Runs.{low};
 ghost use Rattle.words.specs.Entry.{entry_of, entry_word, EntryFits};
 ghost use Rattle.words.specs.Entry.{with_level, with_pending, with_state, with_l2_map, with_mig_type, with_gpa, with_operation, with_status};
 
-#[derive(Drop)]
+#[derive(Clone, Copy)]
 pub struct Entry {
     pub level: u64,
     pub pending: bool,

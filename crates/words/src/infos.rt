@@ -3,7 +3,7 @@ ghost use Rattle.std.specs.Prelude.{◌≡◌};
 ghost use Rattle.words.specs.Runs.{low};
 ghost use Rattle.words.specs.Info.{info_of, info_word, InfoFits, with_format, with_first, with_hpa, with_last};
 
-#[derive(Drop)]
+#[derive(Clone, Copy)]
 pub struct Info {
     pub format: u64,
     pub first: u64,

@@ -3,6 +3,8 @@
 //
 // A state number is a byte. Every other field that is no flag is a u64, so that nobody above casts it before comparing it with a session's number.
 
+#![tactic(auto)]
+
 // The class of a Secure EPT state number.
 pub mod classes;
 // A GPA list entry.

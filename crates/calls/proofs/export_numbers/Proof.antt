@@ -6,5 +6,5 @@ use Rattle.calls.proofs.export_numbers.Tie as tie
 returns : tie.Need-returns
 returns c = refl
 
-pub export-numbers-spec : {M : Type 1} → statement M
-export-numbers-spec = tie.close (tie.spec returns)
+pub export_numbers_spec : {M : Type 1} → statement M
+export_numbers_spec = tie.close (tie.spec returns)

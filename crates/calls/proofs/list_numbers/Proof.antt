@@ -6,5 +6,5 @@ use Rattle.calls.proofs.list_numbers.Tie as tie
 returns : tie.Need-returns
 returns c = refl
 
-pub list-numbers-spec : {M : Type 1} → statement M
-list-numbers-spec = tie.close (tie.spec returns)
+pub list_numbers_spec : {M : Type 1} → statement M
+list_numbers_spec = tie.close (tie.spec returns)

@@ -174,8 +174,8 @@ returns-9 c =
     let made = at-made.restore.ensures in
     rw at-made.before.before.before.before.call8.given.1 (c.list-numbers.ensures ∙ ap list_numbers made.0, (made.1.0, (made.1.1, refl)))
 
-pub perform-spec : {M : Type 1} → statement M
-perform-spec =
+pub perform_spec : {M : Type 1} → statement M
+perform_spec =
     tie.close
     (tie.spec
     enum-known-call

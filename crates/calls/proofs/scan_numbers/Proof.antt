@@ -6,5 +6,5 @@ use Rattle.calls.proofs.scan_numbers.Tie as tie
 returns : tie.Need-returns
 returns c = refl
 
-pub scan-numbers-spec : {M : Type 1} → statement M
-scan-numbers-spec = tie.close (tie.spec returns)
+pub scan_numbers_spec : {M : Type 1} → statement M
+scan_numbers_spec = tie.close (tie.spec returns)

@@ -15,5 +15,5 @@ page-of-requires c κs = search rules
 returns : tie.Need-returns
 returns c = rw (← c.before.before.before.start-token.ensures.0, ← c.before.number_of_lem.ensures, ← c.page-of.ensures)
 
-pub start-token-spec : {M : Type 1} → statement M
-start-token-spec = tie.close (tie.spec start-token-requires number-of-requires page-of-requires returns)
+pub start_token_spec : {M : Type 1} → statement M
+start_token_spec = tie.close (tie.spec start-token-requires number-of-requires page-of-requires returns)

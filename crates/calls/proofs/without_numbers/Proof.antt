@@ -6,5 +6,5 @@ use Rattle.calls.proofs.without_numbers.Tie as tie
 returns : tie.Need-returns
 returns c = refl
 
-pub without-numbers-spec : {M : Type 1} → statement M
-without-numbers-spec = tie.close (tie.spec returns)
+pub without_numbers_spec : {M : Type 1} → statement M
+without_numbers_spec = tie.close (tie.spec returns)

@@ -25,8 +25,8 @@ returns c =
     let w = c.before.before.before.before.before.before.before.dcheck.ensures in
     (c.scan-answer.ensures ∙ ap scan_to_c w.0, w.1)
 
-pub chirp-dcheck-spec : {M : Type 1} → statement M
-chirp-dcheck-spec =
+pub chirp_dcheck_spec : {M : Type 1} → statement M
+chirp_dcheck_spec =
     tie.close
     (tie.spec
     dcheck-requires

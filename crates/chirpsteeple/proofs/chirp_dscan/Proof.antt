@@ -22,8 +22,8 @@ returns c =
     let w = c.before.before.before.before.before.dscan.ensures in
     (c.scan-answer.ensures ∙ ap scan_to_c w.0, w.1)
 
-pub chirp-dscan-spec : {M : Type 1} → statement M
-chirp-dscan-spec =
+pub chirp_dscan_spec : {M : Type 1} → statement M
+chirp_dscan_spec =
     tie.close
     (tie.spec
     dscan-requires

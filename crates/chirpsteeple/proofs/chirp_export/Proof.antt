@@ -25,8 +25,8 @@ returns c =
     let w = c.before.before.before.before.before.before.before.before.export.ensures in
     (ap export_to_c w.0, w.1)
 
-pub chirp-export-spec : {M : Type 1} → statement M
-chirp-export-spec =
+pub chirp_export_spec : {M : Type 1} → statement M
+chirp_export_spec =
     tie.close
     (tie.spec
     export-requires

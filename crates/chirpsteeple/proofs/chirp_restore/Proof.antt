@@ -19,5 +19,5 @@ returns c =
     let w = c.before.before.before.before.restore.ensures in
     (ap list_to_c w.0, w.1)
 
-pub chirp-restore-spec : {M : Type 1} → statement M
-chirp-restore-spec = tie.close (tie.spec restore-requires same_length same-length-2 returns)
+pub chirp_restore_spec : {M : Type 1} → statement M
+chirp_restore_spec = tie.close (tie.spec restore-requires same_length same-length-2 returns)

@@ -16,5 +16,5 @@ returns c =
     let e = c.before.before.start-token.ensures in
     (ap token_to_c e.0, e.1)
 
-pub chirp-start-token-spec : {M : Type 1} → statement M
-chirp-start-token-spec = tie.close (tie.spec start-token-requires same_length returns)
+pub chirp_start_token_spec : {M : Type 1} → statement M
+chirp_start_token_spec = tie.close (tie.spec start-token-requires same_length returns)

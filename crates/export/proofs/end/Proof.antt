@@ -16,10 +16,10 @@ is-over-requires c κs = search rules
 mac-pages-requires : tie.Need-mac-pages-requires
 mac-pages-requires c κs = search rules
 
-add-t7 : tie.Need-overflow-add-t7
+add-t7 : tie.Need-overflow_add-t7
 add-t7 c = omega (arith, macs-few _ _ c.mac-pages.ensures)
 
-add-t8 : tie.Need-overflow-add-t8
+add-t8 : tie.Need-overflow_add-t8
 add-t8 c =
     let start = c.before.before.before.before.before in
     omega (arith, macs-few _ _ c.before.mac-pages.ensures, start.requires.0, start.requires.1, start.requires.2)
@@ -34,8 +34,8 @@ returns-2 : tie.Need-returns-2
 unfolding ended_by
 returns-2 c = rw (sym c.before.is-over.ensures ∙ c.if1.false, c.before.before.info-back.ensures)
 
-pub end-spec : {M : Type 1} → statement M
-end-spec =
+pub end_spec : {M : Type 1} → statement M
+end_spec =
     tie.close
     (tie.spec
     info-back-requires

@@ -116,8 +116,8 @@ returns-2 c =
       (ran.1.0, (ran.1.1.0, ran.1.1.1)),
     )
 
-pub export-spec : {M : Type 1} → statement M
-export-spec =
+pub export_spec : {M : Type 1} → statement M
+export_spec =
     tie.close
     (tie.spec
     info-of-requires

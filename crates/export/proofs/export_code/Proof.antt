@@ -114,8 +114,8 @@ returns-8 c = let at-else = c.before.before.before.before.before.before in sym
       ),
     ))
 
-pub export-code-spec : {M : Type 1} → statement M
-export-code-spec =
+pub export_code_spec : {M : Type 1} → statement M
+export_code_spec =
     tie.close
     (tie.spec is-usable-requires is-resumable-requires is-resting-requires list-code-requires
     returns returns-2 returns-3 returns-4 returns-5 returns-6 returns-7 returns-8)

@@ -15,5 +15,5 @@ returns c = rw c.enum_told.given.1
 returns-2 : tie.Need-returns-2
 returns-2 c = rw c.before.before.before.work.given.1
 
-pub is-resumable-spec : {M : Type 1} → statement M
-is-resumable-spec = tie.close (tie.spec enum_told enum-known-work returns returns-2)
+pub is_resumable_spec : {M : Type 1} → statement M
+is_resumable_spec = tie.close (tie.spec enum_told enum-known-work returns returns-2)

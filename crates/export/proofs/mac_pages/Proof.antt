@@ -12,5 +12,5 @@ returns-2 : tie.Need-returns-2
 unfolding mac_pages
 returns-2 c = rw (lt-leb _ _ c.if1.false)
 
-pub mac-pages-spec : {M : Type 1} → statement M
-mac-pages-spec = tie.close (tie.spec returns returns-2)
+pub mac_pages_spec : {M : Type 1} → statement M
+mac_pages_spec = tie.close (tie.spec returns returns-2)

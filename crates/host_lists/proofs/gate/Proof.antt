@@ -34,5 +34,5 @@ returns-2 c = sym (told c.before.before ∙ rw (eq-eqb _ _ c.before.if1.false, c
 returns-3 : tie.Need-returns-3
 returns-3 c = sym (told c.before.before ∙ rw (eq-eqb _ _ c.before.if1.false, c.if2.false))
 
-pub gate-spec : {M : Type 1} → statement M
-gate-spec = tie.close (tie.spec phase-code-requires returns returns-2 returns-3)
+pub gate_spec : {M : Type 1} → statement M
+gate_spec = tie.close (tie.spec phase-code-requires returns returns-2 returns-3)

@@ -20,8 +20,8 @@ returns : tie.Need-returns
 unfolding ground_of
 returns c = rw (← c.pages-at.ensures, ← c.before.epoch-at.ensures, ← c.before.before.clock-at.ensures, ← c.before.before.before.phase-at.ensures)
 
-pub ground-at-spec : {M : Type 1} → statement M
-ground-at-spec =
+pub ground_at_spec : {M : Type 1} → statement M
+ground_at_spec =
     tie.close
     (tie.spec
     phase-at-requires

@@ -14,7 +14,7 @@ wraps last = omega arith
 is-over-requires : tie.Need-is-over-requires
 is-over-requires c κs = search rules
 
-add-info-from : tie.Need-overflow-add-info-from
+add-info-from : tie.Need-overflow_add-info-from
 add-info-from c = search rules
 
 info-from-requires : tie.Need-info-from-requires
@@ -34,5 +34,5 @@ returns-2 : tie.Need-returns-2
 unfolding info_back
 returns-2 c = rw (sym c.before.before.is-over.ensures ∙ c.before.if1.false) c.info-from2.ensures
 
-pub info-back-spec : {M : Type 1} → statement M
-info-back-spec = tie.close (tie.spec is-over-requires add-info-from info-from-requires returns info-from-requires-2 returns-2)
+pub info_back_spec : {M : Type 1} → statement M
+info_back_spec = tie.close (tie.spec is-over-requires add-info-from info-from-requires returns info-from-requires-2 returns-2)

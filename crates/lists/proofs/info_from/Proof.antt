@@ -9,5 +9,5 @@ info-word-requires c κs = search rules
 returns : tie.Need-returns
 returns c = c.info-word.ensures
 
-pub info-from-spec : {M : Type 1} → statement M
-info-from-spec = tie.close (tie.spec info-word-requires returns)
+pub info_from_spec : {M : Type 1} → statement M
+info_from_spec = tie.close (tie.spec info-word-requires returns)

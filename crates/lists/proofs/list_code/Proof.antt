@@ -33,5 +33,5 @@ returns-5 c =
       (c.before.before.if2.false, (c.before.if3.false, (c.if4.false, tt))),
     ))
 
-pub list-code-spec : {M : Type 1} → statement M
-list-code-spec = tie.close (tie.spec returns returns-2 returns-3 returns-4 returns-5)
+pub list_code_spec : {M : Type 1} → statement M
+list_code_spec = tie.close (tie.spec returns returns-2 returns-3 returns-4 returns-5)

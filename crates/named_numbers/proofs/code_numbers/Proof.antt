@@ -6,5 +6,5 @@ use Rattle.named_numbers.proofs.code_numbers.Tie as tie
 returns : tie.Need-returns
 returns c = refl
 
-pub code-numbers-spec : {M : Type 1} → statement M
-code-numbers-spec = tie.close (tie.spec returns)
+pub code_numbers_spec : {M : Type 1} → statement M
+code_numbers_spec = tie.close (tie.spec returns)

@@ -17,7 +17,7 @@ text-requires c κs = search rules
 loop-holds : tie.Need-loop-init invariant-loop decreases-loop
 loop-holds c = search rules
 
-mul-decimal : tie.Need-overflow-mul-decimal invariant-loop decreases-loop
+mul-decimal : tie.Need-overflow_mul-decimal invariant-loop decreases-loop
 mul-decimal c = search rules
 
 shared-slice-read-decimal : tie.Need-shared-slice-read-decimal invariant-loop decreases-loop
@@ -26,7 +26,7 @@ shared-slice-read-decimal c = search rules
 decimal-requires : tie.Need-decimal-requires invariant-loop decreases-loop
 decimal-requires c κs = search rules
 
-add-i : tie.Need-overflow-add-i invariant-loop decreases-loop
+add-i : tie.Need-overflow_add-i invariant-loop decreases-loop
 add-i c = search rules
 
 loop-less : tie.Need-loop-smaller invariant-loop decreases-loop
@@ -41,8 +41,8 @@ end-requires c κs = search rules
 returns : tie.Need-returns invariant-loop decreases-loop
 returns c = search rules
 
-pub list-spec : {M : Type 1} → statement M
-list-spec =
+pub list_spec : {M : Type 1} → statement M
+list_spec =
     tie.close
     (tie.spec
     invariant-loop

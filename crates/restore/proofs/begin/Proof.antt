@@ -6,5 +6,5 @@ use Rattle.restore.proofs.begin.Tie as tie
 returns : tie.Need-returns
 returns c = search rules
 
-pub begin-spec : {M : Type 1} → statement M
-begin-spec = tie.close (tie.spec returns)
+pub begin_spec : {M : Type 1} → statement M
+begin_spec = tie.close (tie.spec returns)

@@ -19,5 +19,5 @@ returns-2 : tie.Need-returns-2
 unfolding ended_at
 returns-2 c = rw (sym c.before.is-over.ensures ∙ c.if1.false, c.before.before.info-back.ensures)
 
-pub end-spec : {M : Type 1} → statement M
-end-spec = tie.close (tie.spec info-back-requires is-over-requires returns returns-2)
+pub end_spec : {M : Type 1} → statement M
+end_spec = tie.close (tie.spec info-back-requires is-over-requires returns returns-2)

@@ -83,8 +83,8 @@ returns-2 c =
       ← at-begin.begin.ensures,
     ) (rw (← ran.0, ← c.end.ensures), (ran.1.0, ran.1.1.0))
 
-pub restore-spec : {M : Type 1} → statement M
-restore-spec =
+pub restore_spec : {M : Type 1} → statement M
+restore_spec =
     tie.close
     (tie.spec
     info-of-requires

@@ -46,5 +46,5 @@ returns-3 c = let at-else = c.before.before in sym (past-gate at-else ∙ reache
 returns-4 : tie.Need-returns-4
 returns-4 c = let at-else = c.before.before in sym (past-gate at-else ∙ passed-code (tests at-else) (c.before.if2.false, (c.if3.false, tt)))
 
-pub restore-code-spec : {M : Type 1} → statement M
-restore-code-spec = tie.close (tie.spec list-code-requires returns returns-2 returns-3 returns-4)
+pub restore_code_spec : {M : Type 1} → statement M
+restore_code_spec = tie.close (tie.spec list-code-requires returns returns-2 returns-3 returns-4)

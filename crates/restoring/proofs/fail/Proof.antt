@@ -11,5 +11,5 @@ returns : tie.Need-returns
 unfolding left_entry
 returns c = rw c.told-word.ensures
 
-pub fail-spec : {M : Type 1} → statement M
-fail-spec = tie.close (tie.spec told-word-requires returns)
+pub fail_spec : {M : Type 1} → statement M
+fail_spec = tie.close (tie.spec told-word-requires returns)

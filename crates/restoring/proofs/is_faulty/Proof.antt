@@ -8,5 +8,5 @@ returns : tie.Need-returns
 unfolding faulty
 returns c = search rules
 
-pub is-faulty-spec : {M : Type 1} → statement M
-is-faulty-spec = tie.close (tie.spec returns)
+pub is_faulty_spec : {M : Type 1} → statement M
+is_faulty_spec = tie.close (tie.spec returns)

@@ -14,5 +14,5 @@ returns : tie.Need-returns
 unfolding restored_entry
 returns c = rw (c.before.told-word.ensures, c.restore-words.ensures)
 
-pub succeed-spec : {M : Type 1} → statement M
-succeed-spec = tie.close (tie.spec told-word-requires restore-words-requires returns)
+pub succeed_spec : {M : Type 1} → statement M
+succeed_spec = tie.close (tie.spec told-word-requires restore-words-requires returns)

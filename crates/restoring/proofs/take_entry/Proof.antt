@@ -93,8 +93,8 @@ returns-5 c =
     rw (tested at ∙ passed-code (tests at)
     (at-if.before.before.before.if1.false, (at-if.before.before.if2.false, (at-if.before.if3.false, (at-if.if4.false, tt))))) c.succeed.ensures
 
-pub take-entry-spec : {M : Type 1} → statement M
-take-entry-spec =
+pub take_entry_spec : {M : Type 1} → statement M
+take_entry_spec =
     tie.close
     (tie.spec
     entry-of-requires

@@ -27,5 +27,5 @@ returns c =
     (c.before.set-operation.ensures ∙ ap (λ (x : Entry). with_operation x (low 2 a.operation)) (sym (entry-word e (entry-fits a.word)) ∙ entry-low e))
     ∙ sym (entry-low told))
 
-pub told-word-spec : {M : Type 1} → statement M
-told-word-spec = tie.close (tie.spec set-operation-requires set-status-requires returns)
+pub told_word_spec : {M : Type 1} → statement M
+told_word_spec = tie.close (tie.spec set-operation-requires set-status-requires returns)

@@ -49,7 +49,7 @@ empty-requires-2 c κs = search rules
 with-byte-requires : tie.Need-with-byte-requires invariant-loop decreases-loop
 with-byte-requires c κs = search rules
 
-add-counter : tie.Need-overflow-add-counter invariant-loop decreases-loop
+add-counter : tie.Need-overflow_add-counter invariant-loop decreases-loop
 add-counter c = search rules
 
 loop-less : tie.Need-loop-smaller invariant-loop decreases-loop

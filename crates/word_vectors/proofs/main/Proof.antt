@@ -37,7 +37,7 @@ slice-aggregate-read c = search rules
 read-requires : tie.Need-read-requires invariant-loop decreases-loop
 read-requires c κs = search rules
 
-add-counter : tie.Need-overflow-add-counter invariant-loop decreases-loop
+add-counter : tie.Need-overflow_add-counter invariant-loop decreases-loop
 add-counter c = search rules
 
 loop-less : tie.Need-loop-smaller invariant-loop decreases-loop

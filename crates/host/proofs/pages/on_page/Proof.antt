@@ -78,8 +78,8 @@ returns-3 c =
     rw (host-refused (OnPage a.page a.m) (lent a.session.now a.table.now) refl (sym c.before.is-sound.ensures ∙ c.if1.false))
     (refl, (refl, refl))
 
-pub on-page-spec : {M : Type 1} → statement M
-on-page-spec =
+pub on_page_spec : {M : Type 1} → statement M
+on_page_spec =
     tie.close
     (tie.spec
     is-sound-requires

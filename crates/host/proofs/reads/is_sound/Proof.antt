@@ -19,8 +19,8 @@ returns-2 : tie.Need-returns-2
 unfolding sound
 returns-2 c = rw (eq-eqb _ _ c.before.if1.false, c.before.before.is-table.ensures, c.is-formed.ensures)
 
-pub is-sound-spec : {M : Type 1} → statement M
-is-sound-spec =
+pub is_sound_spec : {M : Type 1} → statement M
+is_sound_spec =
     tie.close
     (tie.spec
     is-table-requires

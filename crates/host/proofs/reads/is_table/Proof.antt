@@ -9,5 +9,5 @@ is-legal-requires c κs = search rules
 returns : tie.Need-returns
 returns c = rw (← c.is-legal.ensures)
 
-pub is-table-spec : {M : Type 1} → statement M
-is-table-spec = tie.close (tie.spec is-legal-requires returns)
+pub is_table_spec : {M : Type 1} → statement M
+is_table_spec = tie.close (tie.spec is-legal-requires returns)

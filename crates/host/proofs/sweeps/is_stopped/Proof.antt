@@ -21,8 +21,8 @@ returns-2 c = rw (c.before.before.before.before.if1.true, c.before.before.k.give
 returns-3 : tie.Need-returns-3
 returns-3 c = rw c.if1.false
 
-pub is-stopped-spec : {M : Type 1} → statement M
-is-stopped-spec =
+pub is_stopped_spec : {M : Type 1} → statement M
+is_stopped_spec =
     tie.close
     (tie.spec
     enum_told

@@ -80,8 +80,8 @@ returns-3 c =
     let a = c.before.before.before.before.before.args in
     rw (host-refused (OnAll a.k) (lent a.session.now a.table.now) refl (sym c.before.is-sound.ensures ∙ c.if1.false)) (refl, (refl, refl))
 
-pub on-all-spec : {M : Type 1} → statement M
-on-all-spec =
+pub on_all_spec : {M : Type 1} → statement M
+on_all_spec =
     tie.close
     (tie.spec
     is-sound-requires

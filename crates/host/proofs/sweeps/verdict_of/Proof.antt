@@ -48,8 +48,8 @@ returns c = λ e.
     rw (c.sweep-verdict.ensures, c.before.is-busy.ensures, at-clock.clock-at.ensures)
     (sweep-told a.k s (words_of a.table.now) _ _ gate (λ z. rw (eq-eqb _ _ z) at seen))
 
-pub verdict-of-spec : {M : Type 1} → statement M
-verdict-of-spec =
+pub verdict_of_spec : {M : Type 1} → statement M
+verdict_of_spec =
     tie.close
     (tie.spec
     phase-at-requires

@@ -69,8 +69,8 @@ returns-2 c =
     let a = c.before.before.before.before.before.args in
     rw (host-refused (OnSession a.k) (lent a.session.now a.table.now) refl (sym c.before.is-sound.ensures ∙ c.if1.false)) (refl, (refl, refl))
 
-pub on-session-spec : {M : Type 1} → statement M
-on-session-spec =
+pub on_session_spec : {M : Type 1} → statement M
+on_session_spec =
     tie.close
     (tie.spec
     is-sound-requires

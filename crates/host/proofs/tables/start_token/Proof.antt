@@ -65,8 +65,8 @@ returns-2 c =
     rw (host-refused StartToken (lent a.session.now a.table.now) refl (sym c.before.before.is-sound.ensures ∙ c.before.if1.false))
     (c.code-alone.ensures, (refl, refl))
 
-pub start-token-spec : {M : Type 1} → statement M
-start-token-spec =
+pub start_token_spec : {M : Type 1} → statement M
+start_token_spec =
     tie.close
     (tie.spec
     is-sound-requires

@@ -59,8 +59,8 @@ returns c = λ e.
     (token-told s (words_of t) _ _ _ _ gate (sym (page-count t)) (λ z. at-53.first.ensures (eq-eqb _ _ z))
     (λ z h. at-54.first2.ensures (rw (eq-eqb _ _ z, le-leb _ _ h))))
 
-pub token-of-spec : {M : Type 1} → statement M
-token-of-spec =
+pub token_of_spec : {M : Type 1} → statement M
+token_of_spec =
     tie.close
     (tie.spec
     phase-at-requires

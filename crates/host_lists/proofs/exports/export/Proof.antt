@@ -41,8 +41,8 @@ returns-2 c =
     rw (host-refused (Export a.stream (eqb a.resume 1) a.info a.budget) (lent_all a.session.now a.table.now a.list.now a.buffer.now a.resume)
     refl (sym c.before.before.is-sound.ensures ∙ c.before.if1.false)) (c.code-alone.ensures, (refl, (refl, (refl, refl))))
 
-pub export-spec : {M : Type 1} → statement M
-export-spec =
+pub export_spec : {M : Type 1} → statement M
+export_spec =
     tie.close
     (tie.spec
     is-sound-requires

@@ -227,8 +227,8 @@ returns-2 c =
     )
     (c.Numbers-of.ensures, (at-put.put-change.ensures, (ran.1.0, (ran.1.1.0, ran.1.1.1))))
 
-pub export-sound-spec : {M : Type 1} → statement M
-export-sound-spec =
+pub export_sound_spec : {M : Type 1} → statement M
+export_sound_spec =
     tie.close
     (tie.spec
     info-of-requires

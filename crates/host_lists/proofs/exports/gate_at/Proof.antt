@@ -18,8 +18,8 @@ gate-requires c κs = search rules
 returns : tie.Need-returns
 returns c = rw (← c.before.is-list2.ensures, ← c.before.before.is-list.ensures, ← c.before.before.before.phase-at.ensures) c.gate.ensures
 
-pub gate-at-spec : {M : Type 1} → statement M
-gate-at-spec =
+pub gate_at_spec : {M : Type 1} → statement M
+gate_at_spec =
     tie.close
     (tie.spec
     phase-at-requires

@@ -6,8 +6,8 @@ use Rattle.host_lists.proofs.exports.numbers_of.Tie as tie
 returns : tie.Need-returns
 returns c = refl
 
-pub numbers-of-spec : {M : Type 1} → statement M
-numbers-of-spec =
+pub numbers_of_spec : {M : Type 1} → statement M
+numbers_of_spec =
     tie.close
     (tie.spec
     returns)

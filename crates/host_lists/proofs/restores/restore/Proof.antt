@@ -175,8 +175,8 @@ returns-3 c =
     let none = sym c.before.before.is-sound.ensures ∙ c.before.if1.false in
     rw (host-refused (Restore at-start.args.info at-start.args.budget) (lent_in at-start) refl none) (c.code-alone2.ensures, (refl, (refl, refl)))
 
-pub restore-spec : {M : Type 1} → statement M
-restore-spec =
+pub restore_spec : {M : Type 1} → statement M
+restore_spec =
     tie.close
     (tie.spec
     is-sound-requires

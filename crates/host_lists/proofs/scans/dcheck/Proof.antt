@@ -37,8 +37,8 @@ returns-2 c =
     rw (host-refused (Dcheck a.budget) (lent_list a.session.now a.table.now a.list.now) refl
     (sym c.before.before.is-sound.ensures ∙ c.before.if1.false)) (c.code-alone.ensures, (refl, (refl, refl)))
 
-pub dcheck-spec : {M : Type 1} → statement M
-dcheck-spec =
+pub dcheck_spec : {M : Type 1} → statement M
+dcheck_spec =
     tie.close
     (tie.spec
     is-sound-requires

@@ -127,7 +127,7 @@ same_length c = search rules
 returns : tie.Need-returns
 returns c = rw (refuses c.before) (c.code-alone.ensures, (refl, (refl, refl)))
 
-sub-scan-range : tie.Need-overflow-sub-scan-range
+sub-scan-range : tie.Need-overflow_sub-scan-range
 sub-scan-range c =
     let at_code = c.before.before.before in
     omega (arith, place_read at_code, pages-read at_code, (ranges c.before.before).0)
@@ -180,8 +180,8 @@ returns-2 c =
       ← at_after.check-after.ensures,
     ) (c.Numbers-of.ensures, (at-put.put-change.ensures, (ran.1.0, ran.1.1)))
 
-pub dcheck-sound-spec : {M : Type 1} → statement M
-dcheck-sound-spec =
+pub dcheck_sound_spec : {M : Type 1} → statement M
+dcheck_sound_spec =
     tie.close
     (tie.spec
     phase-at-requires

@@ -31,8 +31,8 @@ returns-2 c =
     rw (host-refused (Dscan a.first a.count a.budget) (lent_list a.session.now a.table.now a.list.now) refl
     (sym c.before.before.is-sound.ensures ∙ c.before.if1.false)) (c.code-alone.ensures, (refl, (refl, refl)))
 
-pub dscan-spec : {M : Type 1} → statement M
-dscan-spec =
+pub dscan_spec : {M : Type 1} → statement M
+dscan_spec =
     tie.close
     (tie.spec
     is-sound-requires

@@ -137,8 +137,8 @@ returns-2 c =
       ← ran.0,
     ) (c.Numbers-of.ensures, (refl, (ran.1.0, ran.1.1)))
 
-pub dscan-sound-spec : {M : Type 1} → statement M
-dscan-sound-spec =
+pub dscan_sound_spec : {M : Type 1} → statement M
+dscan_sound_spec =
     tie.close
     (tie.spec
     phase-at-requires

@@ -9,8 +9,8 @@ written-of-requires c κs = search rules
 returns : tie.Need-returns
 returns c = rw c.written_of_lem.ensures
 
-pub numbers-of-spec : {M : Type 1} → statement M
-numbers-of-spec =
+pub numbers_of_spec : {M : Type 1} → statement M
+numbers_of_spec =
     tie.close
     (tie.spec
     written-of-requires

@@ -7,7 +7,7 @@ use Rattle.wire.proofs.BytesLaws.{words-length, words-put-word}
 use Rattle.in_place.proofs.runs.hold.Statement.{statement}
 use Rattle.in_place.proofs.runs.hold.Tie as tie
 
-mul-put-word : tie.Need-overflow-mul-put-word
+mul-put-word : tie.Need-overflow_mul-put-word
 mul-put-word c = search rules
 
 put-word-requires : tie.Need-put-word-requires
@@ -28,5 +28,5 @@ returns c =
 returns-2 : tie.Need-returns-2
 returns-2 c = let b = c.before.before.args.buffer.now in sym (set_out (words_of b) _ _ (rw (words-length b) c.if1.false))
 
-pub hold-spec : {M : Type 1} → statement M
-hold-spec = tie.close (tie.spec mul-put-word put-word-requires same_length returns returns-2)
+pub hold_spec : {M : Type 1} → statement M
+hold_spec = tie.close (tie.spec mul-put-word put-word-requires same_length returns returns-2)

@@ -63,7 +63,7 @@ step-requires c κs =
       ),
     )
 
-add-spent : tie.Need-overflow-add-spent invariant-loop decreases-loop
+add-spent : tie.Need-overflow_add-spent invariant-loop decreases-loop
 add-spent c = search rules
 
 loop-less : tie.Need-loop-smaller invariant-loop decreases-loop
@@ -107,8 +107,8 @@ returns-2 c =
     let inv = c.before.before.loop.invariant in
     run-written _ _ _ _ inv.6 inv.7 inv.8 (sym (run_end _ _ _ _ c.if1.false) ∙ inv.5)
 
-pub run-entries-spec : {M : Type 1} → statement M
-run-entries-spec =
+pub run_entries_spec : {M : Type 1} → statement M
+run_entries_spec =
     tie.close
     (tie.spec invariant-loop decreases-loop loop-holds same_length same-length-2 same-length-3 returns step-requires add-spent loop-less loop-again same-length-4
     same-length-5 same-length-6 returns-2)

@@ -27,7 +27,7 @@ stepped_by f s word held k w got a b c d e =
     let takes : taking f s ≡ got = cc in
     rw (takes, named)
 
-mul-word-at : tie.Need-overflow-mul-word-at
+mul-word-at : tie.Need-overflow_mul-word-at
 mul-word-at c = search rules
 
 word-at-requires : tie.Need-word-at-requires
@@ -56,7 +56,7 @@ replace-requires c κs =
     let at_load = c.before.before.before.before in
     (at_load.before.before.before.before.before.before.before.before.before.before.requires.0.0, at_load.load.ensures)
 
-mul-put-word : tie.Need-overflow-mul-put-word
+mul-put-word : tie.Need-overflow_mul-put-word
 mul-put-word c =
     let at_load = c.before.before.before.before.before.before.before.before in
     omega (arith, at_load.before.before.before.before.before.before.before.before.before.before.requires.1.1)

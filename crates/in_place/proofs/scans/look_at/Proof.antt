@@ -73,7 +73,7 @@ same-length-2 c = search rules
 returns-2 : tie.Need-returns-2
 returns-2 c = rw (← coded c.before, ne_eqb _ _ c.if2.true) (refl, (refl, (refl, refl)))
 
-add-visit : tie.Need-overflow-add-visit
+add-visit : tie.Need-overflow_add-visit
 add-visit c = search rules
 
 visit-requires : tie.Need-visit-requires
@@ -98,8 +98,8 @@ returns-3 c =
     rw (← coded at_code, eq-eqb _ _ at-if2.if2.false, ← (seen at_Listed).1, ← at_Listed.before.before.load.ensures)
     (sym at-if2.if2.false, (did.0, (did.1.0, did.1.1)))
 
-pub look-at-spec : {M : Type 1} → statement M
-look-at-spec =
+pub look_at_spec : {M : Type 1} → statement M
+look_at_spec =
     tie.close
     (tie.spec
     load-requires

@@ -43,7 +43,7 @@ loop-holds c = let pre = c.before.before.requires in (
   record { bytes = λ i. (c.slice-known2.given i).fits; words = pre.1 },
 )
 
-add-t11 : tie.Need-overflow-add-t11 invariant-loop decreases-loop
+add-t11 : tie.Need-overflow_add-t11 invariant-loop decreases-loop
 add-t11 c = search rules
 
 same_length : tie.Need-same-length invariant-loop decreases-loop
@@ -69,7 +69,7 @@ look-at-requires c κs =
     let inv = at_test.before.loop.invariant in
     (inv.4.words, inv.5.words, omega (arith, at_test.before.before.before.before.requires.2, at_test.loop-test.true), c.before.before.if1.false)
 
-add-t16 : tie.Need-overflow-add-t16 invariant-loop decreases-loop
+add-t16 : tie.Need-overflow_add-t16 invariant-loop decreases-loop
 add-t16 c = search rules
 
 same-length-3 : tie.Need-same-length-3 invariant-loop decreases-loop
@@ -98,7 +98,7 @@ returns-2 c =
     (sym (scan-stops _ scan was.i was.put (words_of was.part) (words_of was.list) _ _ _ _ at_test.loop-test.true refl refl refl did.0
     at-if2.if2.true) ∙ inv.3))
 
-add-i : tie.Need-overflow-add-i invariant-loop decreases-loop
+add-i : tie.Need-overflow_add-i invariant-loop decreases-loop
 add-i c = search rules
 
 loop-less : tie.Need-loop-smaller invariant-loop decreases-loop
@@ -130,7 +130,7 @@ loop-again c =
 end-code-requires : tie.Need-end-code-requires invariant-loop decreases-loop
 end-code-requires c κs = search rules
 
-add-t9 : tie.Need-overflow-add-t9 invariant-loop decreases-loop
+add-t9 : tie.Need-overflow_add-t9 invariant-loop decreases-loop
 add-t9 c = search rules
 
 same-length-5 : tie.Need-same-length-5 invariant-loop decreases-loop
@@ -144,8 +144,8 @@ returns-3 c =
     let inv = c.before.before.before.loop.invariant in
     scan-written _ _ _ inv.4 inv.5 (sym (scan-ends _ _ _ _ _ _ _ c.before.before.loop-test.false c.before.end-code.ensures) ∙ inv.3)
 
-pub scan-part-spec : {M : Type 1} → statement M
-scan-part-spec =
+pub scan_part_spec : {M : Type 1} → statement M
+scan_part_spec =
     tie.close
     (tie.spec
     invariant-loop

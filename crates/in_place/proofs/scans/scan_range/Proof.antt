@@ -44,16 +44,16 @@ module _ (t : List ℕ) (count : ℕ) (scan : Scan) (whole : Whole t) where
         ),
       )
 
-mul-from : tie.Need-overflow-mul-from
+mul-from : tie.Need-overflow_mul-from
 mul-from c = search rules
 
-mul-to : tie.Need-overflow-mul-to
+mul-to : tie.Need-overflow_mul-to
 mul-to c = search rules
 
-add-to : tie.Need-overflow-add-to
+add-to : tie.Need-overflow_add-to
 add-to c = search rules
 
-sub-scan-part : tie.Need-overflow-sub-scan-part
+sub-scan-part : tie.Need-overflow_sub-scan-part
 sub-scan-part c = search rules
 
 part-scan-part-start : tie.Need-slice-bounds-scan-part-start
@@ -90,6 +90,6 @@ returns c =
       ),
     )
 
-pub scan-range-spec : {M : Type 1} → statement M
-scan-range-spec =
+pub scan_range_spec : {M : Type 1} → statement M
+scan_range_spec =
     tie.close (tie.spec mul-from mul-to add-to sub-scan-part part-scan-part-start part-scan-part-end scan-part-requires same_length same-length-2 returns)

@@ -15,7 +15,7 @@ listed-word-requires c κs = search rules
 store-requires : tie.Need-store-requires
 store-requires c κs = search rules
 
-mul-put-word : tie.Need-overflow-mul-put-word
+mul-put-word : tie.Need-overflow_mul-put-word
 mul-put-word c =
     let at-if1 = c.before.before.before.before.before.before.before in
     let room = at-if1.before.before.before.requires.2 at-if1.if1.true in
@@ -27,7 +27,7 @@ put-word-requires c κs =
     let room = at-if1.before.before.before.requires.2 at-if1.if1.true in
     search rules
 
-add-result : tie.Need-overflow-add-result
+add-result : tie.Need-overflow_add-result
 add-result c =
     let at-if1 = c.before.before.before.before.before.before.before.before.before.before in
     let room = at-if1.before.before.before.requires.2 at-if1.if1.true in
@@ -63,7 +63,7 @@ returns c =
 returns-2 : tie.Need-returns-2
 returns-2 c = rw c.if1.false (refl, (refl, refl))
 
-pub visit-spec : {M : Type 1} → statement M
-visit-spec =
+pub visit_spec : {M : Type 1} → statement M
+visit_spec =
     tie.close
     (tie.spec listed-words-requires listed-word-requires store-requires mul-put-word put-word-requires add-result same_length same-length-2 returns returns-2)

@@ -10,7 +10,7 @@ count-if-requires c κs = omega (arith, c.requires.0, c.requires.1)
 count-if-requires-2 : tie.Need-count-if-requires-2
 count-if-requires-2 c κs = omega (arith, c.before.requires.0, c.before.requires.2)
 
-add-t9 : tie.Need-overflow-add-t9
+add-t9 : tie.Need-overflow_add-t9
 add-t9 c = omega (arith, c.before.before.before.requires.0)
 
 returns : tie.Need-returns

@@ -5,7 +5,7 @@ use lib.ListN.{get_or-eq_default}
 use Rattle.lists.proofs.runs.held_at.Statement.{statement}
 use Rattle.lists.proofs.runs.held_at.Tie as tie
 
-mul-result : tie.Need-overflow-mul-result
+mul-result : tie.Need-overflow_mul-result
 mul-result c = search rules
 
 shared-slice-read-result : tie.Need-shared-slice-read-result
@@ -17,5 +17,5 @@ returns c = search rules
 returns-2 : tie.Need-returns-2
 returns-2 c = sym (get_or-eq_default c.before.args.buffer.now 0 c.if1.false)
 
-pub held-at-spec : {M : Type 1} → statement M
-held-at-spec = tie.close (tie.spec mul-result shared-slice-read-result returns returns-2)
+pub held_at_spec : {M : Type 1} → statement M
+held_at_spec = tie.close (tie.spec mul-result shared-slice-read-result returns returns-2)

@@ -5,7 +5,7 @@ use lib.Seq.{set_out}
 use Rattle.lists.proofs.runs.hold.Statement.{statement}
 use Rattle.lists.proofs.runs.hold.Tie as tie
 
-mul-buffer : tie.Need-overflow-mul-buffer
+mul-buffer : tie.Need-overflow_mul-buffer
 mul-buffer c = search rules
 
 slice-write-buffer : tie.Need-slice-write-buffer
@@ -20,5 +20,5 @@ returns c = search rules
 returns-2 : tie.Need-returns-2
 returns-2 c = sym (set_out _ _ _ c.if1.false)
 
-pub hold-spec : {M : Type 1} → statement M
-hold-spec = tie.close (tie.spec mul-buffer slice-write-buffer same_length returns returns-2)
+pub hold_spec : {M : Type 1} → statement M
+hold_spec = tie.close (tie.spec mul-buffer slice-write-buffer same_length returns returns-2)

@@ -53,7 +53,7 @@ step-requires c κs =
       at-loop.loop.invariant.4.filled,
     )
 
-add-spent : tie.Need-overflow-add-spent invariant-loop decreases-loop
+add-spent : tie.Need-overflow_add-spent invariant-loop decreases-loop
 add-spent c = search rules
 
 loop-less : tie.Need-loop-smaller invariant-loop decreases-loop
@@ -89,8 +89,8 @@ same-length-6 c = c.before.before.loop.invariant.2
 returns-2 : tie.Need-returns-2 invariant-loop decreases-loop
 returns-2 c = returned (sym (run_end _ _ _ _ c.if1.false) ∙ c.before.before.loop.invariant.5)
 
-pub run-entries-spec : {M : Type 1} → statement M
-run-entries-spec =
+pub run_entries_spec : {M : Type 1} → statement M
+run_entries_spec =
     tie.close
     (tie.spec
     invariant-loop

@@ -7,7 +7,7 @@ use Rattle.lists.specs.Run.{stepped}
 use Rattle.lists.proofs.runs.step.Statement.{statement}
 use Rattle.lists.proofs.runs.step.Tie as tie
 
-mul-word : tie.Need-overflow-mul-word
+mul-word : tie.Need-overflow_mul-word
 mul-word c = search rules
 
 slice-read-word : tie.Need-slice-read-word
@@ -32,7 +32,7 @@ count-requires c κs = let start = c.before.before.before.before.before.before.b
 store-requires : tie.Need-store-requires
 store-requires c κs = search rules
 
-mul-list : tie.Need-overflow-mul-list
+mul-list : tie.Need-overflow_mul-list
 mul-list c = omega (
   arith,
   c.before.before.before.before.before.before.before.before.before.before.before.before.before.before.before.before.requires.1,

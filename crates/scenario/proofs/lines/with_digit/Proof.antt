@@ -17,10 +17,10 @@ begun-requires c κs = search rules
 base-of-requires : tie.Need-base-of-requires
 base-of-requires c κs = search rules
 
-sub-if1 : tie.Need-overflow-sub-if1
+sub-if1 : tie.Need-overflow_sub-if1
 sub-if1 c = search rules
 
-div-if1 : tie.Need-nonzero-div-if1
+div-if1 : tie.Need-nonzero_div-if1
 div-if1 c = search rules
 
 unreadable-requires : tie.Need-unreadable-requires
@@ -29,12 +29,12 @@ unreadable-requires c κs = search rules
 returns : tie.Need-returns
 returns c = search rules
 
-add-with-number : tie.Need-overflow-add-with-number
+add-with-number : tie.Need-overflow_add-with-number
 add-with-number c =
     let number = c.before.before.before.before.begun.result.number in
     omega (arith, room number _ _ c.before.before.before.base-of.ensures c.before.before.before.before.before.requires (omega arith))
 
-mul-with-number : tie.Need-overflow-mul-with-number
+mul-with-number : tie.Need-overflow_mul-with-number
 mul-with-number c = omega (arith, add-with-number c)
 
 with-number-requires : tie.Need-with-number-requires
@@ -43,8 +43,8 @@ with-number-requires c κs = search rules
 returns-2 : tie.Need-returns-2
 returns-2 c = search rules
 
-pub with-digit-spec : {M : Type 1} → statement M
-with-digit-spec =
+pub with_digit_spec : {M : Type 1} → statement M
+with_digit_spec =
     tie.close
     (tie.spec
     begun-requires

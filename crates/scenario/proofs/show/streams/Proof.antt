@@ -19,7 +19,7 @@ text-requires c κs = search rules
 loop-holds : tie.Need-loop-init invariant-loop decreases-loop
 loop-holds c = search rules
 
-mul-stream : tie.Need-overflow-mul-stream invariant-loop decreases-loop
+mul-stream : tie.Need-overflow_mul-stream invariant-loop decreases-loop
 mul-stream c = search rules
 
 element-copy-out-stream : tie.Need-element-copy-out-stream invariant-loop decreases-loop
@@ -28,7 +28,7 @@ element-copy-out-stream c = search rules
 run-requires : tie.Need-run-requires invariant-loop decreases-loop
 run-requires c κs = search rules
 
-add-i : tie.Need-overflow-add-i invariant-loop decreases-loop
+add-i : tie.Need-overflow_add-i invariant-loop decreases-loop
 add-i c = search rules
 
 loop-less : tie.Need-loop-smaller invariant-loop decreases-loop
@@ -40,8 +40,8 @@ loop-again c = search rules
 returns : tie.Need-returns invariant-loop decreases-loop
 returns c = search rules
 
-pub streams-spec : {M : Type 1} → statement M
-streams-spec =
+pub streams_spec : {M : Type 1} → statement M
+streams_spec =
     tie.close
     (tie.spec
     invariant-loop

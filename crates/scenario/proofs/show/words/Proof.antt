@@ -13,7 +13,7 @@ decreases-loop space from to i₀ i = to - i
 loop-holds : tie.Need-loop-init invariant-loop decreases-loop
 loop-holds c = search rules
 
-mul-word : tie.Need-overflow-mul-word invariant-loop decreases-loop
+mul-word : tie.Need-overflow_mul-word invariant-loop decreases-loop
 mul-word c = search rules
 
 shared-slice-read-word : tie.Need-shared-slice-read-word invariant-loop decreases-loop
@@ -22,7 +22,7 @@ shared-slice-read-word c = search rules
 word-requires : tie.Need-word-requires invariant-loop decreases-loop
 word-requires c κs = search rules
 
-add-i : tie.Need-overflow-add-i invariant-loop decreases-loop
+add-i : tie.Need-overflow_add-i invariant-loop decreases-loop
 add-i c = search rules
 
 loop-less : tie.Need-loop-smaller invariant-loop decreases-loop
@@ -37,5 +37,5 @@ end-requires c κs = search rules
 returns : tie.Need-returns invariant-loop decreases-loop
 returns c = search rules
 
-pub words-spec : {M : Type 1} → statement M
-words-spec = tie.close (tie.spec invariant-loop decreases-loop loop-holds mul-word shared-slice-read-word word-requires add-i loop-less loop-again end-requires returns)
+pub words_spec : {M : Type 1} → statement M
+words_spec = tie.close (tie.spec invariant-loop decreases-loop loop-holds mul-word shared-slice-read-word word-requires add-i loop-less loop-again end-requires returns)

@@ -20,7 +20,7 @@ shared-slice-read-with-byte c = search rules
 with-byte-requires : tie.Need-with-byte-requires invariant-loop decreases-loop
 with-byte-requires c κs = search rules
 
-add-i : tie.Need-overflow-add-i invariant-loop decreases-loop
+add-i : tie.Need-overflow_add-i invariant-loop decreases-loop
 add-i c = search rules
 
 loop-less : tie.Need-loop-smaller invariant-loop decreases-loop

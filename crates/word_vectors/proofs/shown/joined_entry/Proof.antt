@@ -17,5 +17,5 @@ returns c =
     let start = c.before.before in
     c.entry-word.ensures ∙ ap entry_word c.before.entry_of.ensures.0 ∙ word-entry start.args.w start.ranges.w.fits
 
-pub joined-entry-spec : {M : Type 1} → statement M
-joined-entry-spec = tie.close (tie.spec entry-of-requires entry-word-requires returns)
+pub joined_entry_spec : {M : Type 1} → statement M
+joined_entry_spec = tie.close (tie.spec entry-of-requires entry-word-requires returns)

@@ -17,5 +17,5 @@ returns c =
     let start = c.before.before in
     c.info-word.ensures ∙ ap info_word c.before.info-of.ensures.0 ∙ word-info start.args.w start.ranges.w.fits
 
-pub joined-info-spec : {M : Type 1} → statement M
-joined-info-spec = tie.close (tie.spec info-of-requires info-word-requires returns)
+pub joined_info_spec : {M : Type 1} → statement M
+joined_info_spec = tie.close (tie.spec info-of-requires info-word-requires returns)

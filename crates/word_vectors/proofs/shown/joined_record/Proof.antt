@@ -17,5 +17,5 @@ returns c =
     let start = c.before.before in
     c.record-word.ensures ∙ ap record_word c.before.record_of.ensures.0 ∙ word-record start.args.w start.ranges.w.fits
 
-pub joined-record-spec : {M : Type 1} → statement M
-joined-record-spec = tie.close (tie.spec record-of-requires record-word-requires returns)
+pub joined_record_spec : {M : Type 1} → statement M
+joined_record_spec = tie.close (tie.spec record-of-requires record-word-requires returns)

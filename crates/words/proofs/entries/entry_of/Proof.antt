@@ -9,5 +9,5 @@ returns : tie.Need-returns
 unfolding entry_of
 returns c = read-code entry c.args.w
 
-pub entry-of-spec : {M : Type 1} → statement M
-entry-of-spec = tie.close (tie.spec returns)
+pub entry_of_spec : {M : Type 1} → statement M
+entry_of_spec = tie.close (tie.spec returns)

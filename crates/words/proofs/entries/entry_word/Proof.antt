@@ -12,7 +12,7 @@ use Rattle.words.proofs.Words.{write-code}
 use Rattle.words.proofs.entries.entry_word.Statement.{statement}
 use Rattle.words.proofs.entries.entry_word.Tie as tie
 
-cast-result : tie.Need-overflow-cast-result
+cast-result : tie.Need-overflow_cast-result
 cast-result c = search rules
 
 returns : tie.Need-returns
@@ -23,5 +23,5 @@ returns c =
     ap (λ (n : ℕ). write_runs entry.widths (set (masked entry.widths (entry.runs e)) 1 n)) (bare 1 (bit-lt e.pending))
     ∙ write-code entry e
 
-pub entry-word-spec : {M : Type 1} → statement M
-entry-word-spec = tie.close (tie.spec cast-result returns)
+pub entry_word_spec : {M : Type 1} → statement M
+entry_word_spec = tie.close (tie.spec cast-result returns)

@@ -10,5 +10,5 @@ returns : tie.Need-returns
 unfolding entry_of
 returns c = set_code entry 6 c.args.w c.args.v (lit< tt)
 
-pub set-gpa-spec : {M : Type 1} → statement M
-set-gpa-spec = tie.close (tie.spec returns)
+pub set_gpa_spec : {M : Type 1} → statement M
+set_gpa_spec = tie.close (tie.spec returns)

@@ -10,5 +10,5 @@ returns : tie.Need-returns
 unfolding entry_of
 returns c = set_code entry 4 c.args.w c.args.v (lit< tt)
 
-pub set-l2-map-spec : {M : Type 1} → statement M
-set-l2-map-spec = tie.close (tie.spec returns)
+pub set_l2_map_spec : {M : Type 1} → statement M
+set_l2_map_spec = tie.close (tie.spec returns)

@@ -10,5 +10,5 @@ returns : tie.Need-returns
 unfolding entry_of
 returns c = set_code entry 0 c.args.w c.args.v (lit< tt)
 
-pub set-level-spec : {M : Type 1} → statement M
-set-level-spec = tie.close (tie.spec returns)
+pub set_level_spec : {M : Type 1} → statement M
+set_level_spec = tie.close (tie.spec returns)

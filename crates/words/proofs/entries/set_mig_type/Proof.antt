@@ -10,5 +10,5 @@ returns : tie.Need-returns
 unfolding entry_of
 returns c = set_code entry 5 c.args.w c.args.v (lit< tt)
 
-pub set-mig-type-spec : {M : Type 1} → statement M
-set-mig-type-spec = tie.close (tie.spec returns)
+pub set_mig_type_spec : {M : Type 1} → statement M
+set_mig_type_spec = tie.close (tie.spec returns)

@@ -10,5 +10,5 @@ returns : tie.Need-returns
 unfolding entry_of
 returns c = set_code entry 7 c.args.w c.args.v (lit< tt)
 
-pub set-operation-spec : {M : Type 1} → statement M
-set-operation-spec = tie.close (tie.spec returns)
+pub set_operation_spec : {M : Type 1} → statement M
+set_operation_spec = tie.close (tie.spec returns)

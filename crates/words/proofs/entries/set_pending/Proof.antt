@@ -9,7 +9,7 @@ use Rattle.words.proofs.Words.{put-code}
 use Rattle.words.proofs.entries.set_pending.Statement.{statement}
 use Rattle.words.proofs.entries.set_pending.Tie as tie
 
-cast-result : tie.Need-overflow-cast-result
+cast-result : tie.Need-overflow_cast-result
 cast-result c = search rules
 
 returns : tie.Need-returns
@@ -17,5 +17,5 @@ unfolding entry_of
 returns c =
     let b = c.args.v in put-code entry 1 c.args.w (lit< tt) (bit-lt b) ∙ ap (with_pending (entry_of c.args.w)) (flag-bit b)
 
-pub set-pending-spec : {M : Type 1} → statement M
-set-pending-spec = tie.close (tie.spec cast-result returns)
+pub set_pending_spec : {M : Type 1} → statement M
+set_pending_spec = tie.close (tie.spec cast-result returns)

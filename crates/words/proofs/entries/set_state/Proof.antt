@@ -10,5 +10,5 @@ returns : tie.Need-returns
 unfolding entry_of
 returns c = set_code entry 2 c.args.w c.args.v (lit< tt)
 
-pub set-state-spec : {M : Type 1} → statement M
-set-state-spec = tie.close (tie.spec returns)
+pub set_state_spec : {M : Type 1} → statement M
+set_state_spec = tie.close (tie.spec returns)

@@ -10,5 +10,5 @@ returns : tie.Need-returns
 unfolding entry_of
 returns c = set_code entry 9 c.args.w c.args.v (lit< tt)
 
-pub set-status-spec : {M : Type 1} → statement M
-set-status-spec = tie.close (tie.spec returns)
+pub set_status_spec : {M : Type 1} → statement M
+set_status_spec = tie.close (tie.spec returns)

@@ -9,5 +9,5 @@ returns : tie.Need-returns
 unfolding info_of
 returns c = read-code info c.args.w
 
-pub info-of-spec : {M : Type 1} → statement M
-info-of-spec = tie.close (tie.spec returns)
+pub info_of_spec : {M : Type 1} → statement M
+info_of_spec = tie.close (tie.spec returns)

@@ -9,5 +9,5 @@ returns : tie.Need-returns
 unfolding info_of
 returns c = let start = c.before.before.before.before.before in write-code info start.args.x
 
-pub info-word-spec : {M : Type 1} → statement M
-info-word-spec = tie.close (tie.spec returns)
+pub info_word_spec : {M : Type 1} → statement M
+info_word_spec = tie.close (tie.spec returns)

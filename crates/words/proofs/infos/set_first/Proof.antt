@@ -10,5 +10,5 @@ returns : tie.Need-returns
 unfolding info_of
 returns c = set_code info 1 c.args.w c.args.v (lit< tt)
 
-pub set-first-spec : {M : Type 1} → statement M
-set-first-spec = tie.close (tie.spec returns)
+pub set_first_spec : {M : Type 1} → statement M
+set_first_spec = tie.close (tie.spec returns)

@@ -10,5 +10,5 @@ returns : tie.Need-returns
 unfolding info_of
 returns c = set_code info 0 c.args.w c.args.v (lit< tt)
 
-pub set-format-spec : {M : Type 1} → statement M
-set-format-spec = tie.close (tie.spec returns)
+pub set_format_spec : {M : Type 1} → statement M
+set_format_spec = tie.close (tie.spec returns)

@@ -10,5 +10,5 @@ returns : tie.Need-returns
 unfolding info_of
 returns c = set_code info 2 c.args.w c.args.v (lit< tt)
 
-pub set-hpa-spec : {M : Type 1} → statement M
-set-hpa-spec = tie.close (tie.spec returns)
+pub set_hpa_spec : {M : Type 1} → statement M
+set_hpa_spec = tie.close (tie.spec returns)

@@ -10,5 +10,5 @@ returns : tie.Need-returns
 unfolding info_of
 returns c = set_code info 4 c.args.w c.args.v (lit< tt)
 
-pub set-last-spec : {M : Type 1} → statement M
-set-last-spec = tie.close (tie.spec returns)
+pub set_last_spec : {M : Type 1} → statement M
+set_last_spec = tie.close (tie.spec returns)

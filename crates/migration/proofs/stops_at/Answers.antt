@@ -1,0 +1,12 @@
+-- Each arm is its clause of the definition.
+use borrow.Author.Rules.{rules}
+use Rattle.migration.proofs.stops_at.Goals as goal
+
+pub returns-in-Track : goal.returns-in-Track
+returns-in-Track c = rw c.in-Track.is
+
+pub returns-in-Start : goal.returns-in-Start
+returns-in-Start c = rw c.in-Start.is
+
+pub returns-in-Pause : goal.returns-in-Pause
+returns-in-Pause c = rw c.in-Pause.is

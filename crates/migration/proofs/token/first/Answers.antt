@@ -1,0 +1,9 @@
+-- By what is asked.
+use borrow.Author.Rules.{rules}
+use Rattle.migration.proofs.token.first.Goals as goal
+
+pub returns-then-asked : goal.returns-then-asked
+returns-then-asked c = rw c.if-asked.true c.find.ensures
+
+pub returns : goal.returns
+returns c = rw c.if-asked.false

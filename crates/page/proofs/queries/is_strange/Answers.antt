@@ -1,0 +1,6 @@
+-- What is asked of the number is asked of the state that it names.
+use borrow.Author.Rules.{rules}
+use Rattle.page.proofs.queries.is_strange.Goals as goal
+
+pub returns : goal.returns
+returns c = rw (← c.state_of.ensures.result_value) c.is_strange.ensures

@@ -1,0 +1,6 @@
+-- The session in another phase, with epoch, check and streams set.
+use borrow.Author.Rules.{rules}
+use Rattle.session.proofs.changes.begin.Goals as goal
+
+pub returns : goal.returns
+returns c = rw (c.with_phase-next.ensures, c.no_check-check.ensures, c.at_rest-streams.ensures)

@@ -1,0 +1,6 @@
+-- The definition's fields, with the check and the streams that the two functions give.
+use borrow.Author.Rules.{rules}
+use Rattle.session.proofs.new_session.Goals as goal
+
+pub returns : goal.returns
+returns c = rw (c.no_check-check.ensures, c.at_rest-streams.ensures)

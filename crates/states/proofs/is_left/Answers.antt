@@ -1,0 +1,11 @@
+-- The mask and the list agree at each number.
+use borrow.Author.Rules.{rules}
+use Rattle.states.specs.States.{state_of, is_in}
+use Rattle.states.specs.Lists.{left_states}
+use Rattle.states.specs.Masks.{in_mask}
+use Rattle.states.proofs.Masks.{mask-list}
+use Rattle.states.proofs.is_left.Goals as goal
+
+pub returns : goal.returns
+unfolding is_in state_of in_mask
+returns c = mask-list _ c.args.n left_states c.is_in.ensures (search rules) tt

@@ -1,0 +1,8 @@
+-- A number of the session, in its place.
+use borrow.Author.Rules.{rules}
+use Rattle.wire.specs.Sessions.{session_of}
+use Rattle.wire.proofs.sessions.created_at.Goals as goal
+
+pub returns : goal.returns
+unfolding session_of
+returns c = c.number.ensures

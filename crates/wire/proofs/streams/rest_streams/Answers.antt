@@ -1,0 +1,13 @@
+-- A part of the bytes, cleared.
+use borrow.Author.Rules.{rules}
+use native.Mathlib.Omega.{arith}
+use mathlib.Core.Path.{◌≡◌}
+use lib.ListN.{length, take, drop, length-drop}
+use lib.Seq.{length-take-le}
+use Rattle.wire.proofs.ChangeLaws.{put-zeros}
+use Rattle.wire.proofs.streams.rest_streams.Goals as goal
+
+pub returns : goal.returns
+returns c = let b = c.args.b.now in
+    let long : length (take 320 (drop 64 b)) ≡ 320 = length-take-le 320 (drop 64 b) (rw (length-drop 64 b) (omega arith)) in
+    rw (c.clear.ensures, long) (put-zeros b 8 40 (omega arith))
