@@ -1,6 +1,7 @@
 // One entry of a list that is exported: what becomes of its word and of its page, as a pure step on the ground that the whole call stands on.
 
 #![tactic(auto)]
+
 ghost use Rattle.std.specs.Prelude.{◌≡◌, cond, false};
 ghost use Rattle.states.specs.States.{number_of, goes_by};
 ghost use Rattle.states.specs.Lists.{exports};

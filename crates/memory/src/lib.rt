@@ -1,6 +1,7 @@
 // New, and the calls on one page.
 
 #![tactic(auto)]
+
 ghost use Rattle.std.specs.Prelude.{◌≡◌};
 ghost use Rattle.refusals.specs.Refusals.{first_of};
 ghost use Rattle.page.specs.Page.{page_of};

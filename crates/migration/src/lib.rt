@@ -1,6 +1,7 @@
 // The calls on every page, the calls on the session alone, and in its own module the start token.
 
 #![tactic(auto)]
+
 ghost use Rattle.std.specs.Prelude.{◌≡◌, ◌&&◌};
 ghost use Rattle.migration.specs.Migration.{sweep_when, stops_at, stopped, sweep_verdict, on_all};
 ghost use Rattle.migration.specs.Migration.{alone_when, alone_verdict, alone_answer};

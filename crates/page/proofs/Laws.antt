@@ -1,17 +1,16 @@
 -- Reading a page and writing it back undo each other; what a move makes of a page is what its words say afterwards.
-use mathlib.Core.Path.{◌≡◌, refl, sym, ap, ap₂, ◌∙◌}
-use mathlib.Core.Bool.{Bool, true, false, cond, not, ◌&&◌, and-false, true≢false}
+use mathlib.Core.Path.{◌≡◌, refl, sym, ap, ◌∙◌}
+use mathlib.Core.Bool.{Bool, true, false, cond, not, and-false, true≢false}
 use mathlib.Core.List.{List}
 use Prim.Native.Nat.{ℕ, ◌^◌, ◌<◌}
 use native.Mathlib.Omega.{arith}
 use lib.Dec.{eqb, lit<}
 use borrow.Author.Tests.{eqb-true, le-ltb}
 use Rattle.refusals.proofs.Laws.{and_left, and_right}
-use Rattle.words.specs.Runs.{low}
-use Rattle.records.specs.Record.{record_of, record_word, lowered, RecordFits, plain, with_stamp}
+use Rattle.records.specs.Record.{record_of, lowered, RecordFits, plain}
 use Rattle.records.specs.declared.Record.{Record}
 use Rattle.records.proofs.RecordLaws.{record-word, record-low, record-fits, word-lowered}
-use Rattle.states.specs.States.{State, Strange, Change, state_of, number_of, is_strange, goes_by, number_by}
+use Rattle.states.specs.States.{Strange, Change, state_of, number_of, is_strange, goes_by, number_by}
 use Rattle.states.proofs.Laws.{number_lt, state-number, number-state, number_by_lem}
 use Rattle.page.specs.Page.{Page, state_read, page_of, number_read, strange, record_for, words_for, on_words, unless_strange, tracked}
 use Rattle.page.specs.declared.Clock.{Clock}

@@ -4,6 +4,7 @@
 // Nothing here takes a page apart into a struct of its own: the state's number is read off the record, and fields of the record's word are set.
 
 #![tactic(auto)]
+
 ghost use Rattle.std.specs.Prelude.{◌≡◌};
 ghost use Rattle.records.specs.Record.{record_of};
 ghost use Rattle.states.specs.States.{state_of};

@@ -1,6 +1,7 @@
 // Word 0 of a page record: seven runs that fill the word. Word 1, the mark, is one number and has no runs.
 
 #![tactic(auto)]
+
 ghost use Rattle.std.specs.Prelude.{◌≡◌};
 ghost use Rattle.words.specs.Runs.{low};
 ghost use Rattle.records.specs.Record.{record_of, record_word, RecordFits, plain};

@@ -1,6 +1,7 @@
 // One entry of a list that is restored: what becomes of its word and of its page, as a pure step on the ground that the whole call stands on.
 
 #![tactic(auto)]
+
 ghost use Rattle.std.specs.Prelude.{◌≡◌};
 ghost use Rattle.words.specs.Entry.{entry_of};
 ghost use Rattle.restoring.specs.Restoring.{faulty, told_word, restored_entry, left_entry, restored_of};

@@ -1,6 +1,7 @@
 // The scans: DSCAN looks for pages to export in a part of the table while the guest runs, DCHECK in the rest of it once the guest is paused.
 
 #![tactic(auto)]
+
 ghost use Rattle.std.specs.Prelude.{◌≡◌, cond, true, ◌+◌, ◌*◌, ◌/◌, ◌≤◌, ◌<◌, length, set};
 ghost use Rattle.page.specs.Page.{page_of, on_words};
 ghost use Rattle.table.specs.Table.{most_pages, put_at};

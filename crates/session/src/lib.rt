@@ -1,6 +1,7 @@
 // The session: what a bench knows beside its table, when it is well-formed, and the gate that every call but New passes first.
 
 #![tactic(auto)]
+
 ghost use Rattle.std.specs.Prelude.{◌≡◌, []};
 ghost use Rattle.refusals.specs.Refusals.{first_of};
 ghost use Rattle.session.specs.Session.{among, phases_of, comes_in, new_session};

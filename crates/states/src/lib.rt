@@ -5,6 +5,7 @@
 // proof; a new state is its name, and its places in the lists and masks.
 
 #![tactic(auto)]
+
 ghost use Rattle.std.specs.Prelude.{◌≡◌, cond};
 ghost use Rattle.states.specs.States.{state_of, is_strange, is_in, number_by, number_in};
 ghost use Rattle.states.specs.Lists.{writable_states, landing_states, startable_states, stamped_states, blocked_states, changed_states, sent_states};

@@ -2,6 +2,7 @@
 // number is taken: past the end there are zeros, and nothing is written there.
 
 #![tactic(auto)]
+
 ghost use Rattle.std.specs.Prelude.{◌≡◌, length, replicate};
 ghost use Rattle.page.specs.Page.{on_words, sought};
 ghost use Rattle.page.specs.Sweeps.{swept_by};

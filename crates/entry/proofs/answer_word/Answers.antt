@@ -1,5 +1,4 @@
 -- The entry is written with the fields that are told.
-use borrow.Author.Rules.{rules}
 use Rattle.entry.specs.Entry.{answer_word}
 use Rattle.entry.proofs.answer_word.Goals as goal
 

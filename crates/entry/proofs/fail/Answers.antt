@@ -1,5 +1,4 @@
 -- Each field is the definition's.
-use borrow.Author.Rules.{rules}
 use Rattle.entry.specs.Entry.{failed_entry}
 use Rattle.entry.proofs.fail.Goals as goal
 

@@ -1,5 +1,4 @@
 -- Each field is the definition's, of the state that the number names.
-use borrow.Author.Rules.{rules}
 use Rattle.entry.specs.Entry.{sent_entry}
 use Rattle.page.specs.Page.{page_of}
 use Rattle.entry.proofs.succeed.Goals as goal

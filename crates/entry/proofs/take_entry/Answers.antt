@@ -1,5 +1,4 @@
 -- By the status: a success or a failure.
-use borrow.Author.Rules.{rules}
 use borrow.Author.Tests.{eq-eqb, ne_eqb}
 use Rattle.entry.specs.Entry.{taken_of}
 use Rattle.entry.proofs.take_entry.Goals as goal

@@ -1,6 +1,4 @@
 -- By the code: everything as it came, or a new session and a cleared table.
-use borrow.Author.Rules.{rules}
-use mathlib.Core.Path.{refl}
 use borrow.Author.Tests.{eq-eqb, ne_eqb}
 use Rattle.session.specs.Outcome.{answered}
 use Rattle.memory.specs.Memory.{new_out}

@@ -1,5 +1,4 @@
 -- Each way out is the definition at the tests that led there.
-use borrow.Author.Rules.{rules}
 use Rattle.memory.specs.Memory.{new_code}
 use Rattle.memory.proofs.new_code.Goals as goal
 

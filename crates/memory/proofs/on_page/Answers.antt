@@ -1,6 +1,5 @@
 -- Not behind 40 all is as it came; behind it, the turn on the words that the table holds is stored where its code is 0.
-use borrow.Author.Rules.{rules}
-use mathlib.Core.Path.{◌≡◌, refl, sym, ◌∙◌}
+use mathlib.Core.Path.{◌≡◌, sym, ◌∙◌}
 use borrow.Author.Tests.{eq-eqb, ne_eqb}
 use Prim.Native.Nat.{ℕ}
 use mathlib.Core.Bool.{Bool, true}

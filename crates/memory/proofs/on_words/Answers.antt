@@ -1,5 +1,4 @@
 -- The code, and the words that the call would leave.
-use borrow.Author.Rules.{rules}
 use Rattle.memory.specs.Memory.{page_turn}
 use Rattle.memory.proofs.on_words.Goals as goal
 

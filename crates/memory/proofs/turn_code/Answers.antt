@@ -4,6 +4,7 @@ use mathlib.Core.Bool.{Bool, not, ◌&&◌}
 use mathlib.Core.List.{List, ◌∷◌}
 use Prim.Native.Nat.{ℕ}
 use lib.Dec.{leb}
+use borrow.Author.Tests.{le-leb, lt-leb}
 use Rattle.words.specs.Codes as codes
 use Rattle.refusals.specs.Refusals.{Test, ◌gives◌, first_of}
 use Rattle.session.specs.declared.Comes.{Comes}
@@ -35,7 +36,7 @@ pub returns-then-barred : goal.returns-then-barred
 returns-then-barred c =
     rw (
       tested c.args.m c.args.phase c.args.pages c.args.clock c.args.at (page_of c.args.w) c.comes_in-comes.result c.is_block-block.result c.is_write-write.result c.is_left-left.result
-      c.comes_in-comes.ensures c.is_block-block.ensures c.is_write-write.ensures c.is_left-left.ensures,
+          c.comes_in-comes.ensures c.is_block-block.ensures c.is_write-write.ensures c.is_left-left.ensures,
       c.if-barred.true,
     )
 
@@ -43,31 +44,40 @@ pub returns-then-away : goal.returns-then-away
 returns-then-away c =
     rw (
       tested c.args.m c.args.phase c.args.pages c.args.clock c.args.at (page_of c.args.w) c.comes_in-comes.result c.is_block-block.result c.is_write-write.result c.is_left-left.result
-      c.comes_in-comes.ensures c.is_block-block.ensures c.is_write-write.ensures c.is_left-left.ensures,
-      c.if-barred.false, c.if-away.true,
+          c.comes_in-comes.ensures c.is_block-block.ensures c.is_write-write.ensures c.is_left-left.ensures,
+      c.if-barred.false,
+      c.if-away.true,
     )
 
 pub returns-then-beyond : goal.returns-then-beyond
 returns-then-beyond c =
     rw (
       tested c.args.m c.args.phase c.args.pages c.args.clock c.args.at (page_of c.args.w) c.comes_in-comes.result c.is_block-block.result c.is_write-write.result c.is_left-left.result
-      c.comes_in-comes.ensures c.is_block-block.ensures c.is_write-write.ensures c.is_left-left.ensures,
-      c.if-barred.false, c.if-away.false, c.if-beyond.true,
+          c.comes_in-comes.ensures c.is_block-block.ensures c.is_write-write.ensures c.is_left-left.ensures,
+      c.if-barred.false,
+      c.if-away.false,
+      le-leb _ _ c.if-beyond.true,
     )
 
 pub returns-then-waits : goal.returns-then-waits
 returns-then-waits c =
     rw (
       tested c.args.m c.args.phase c.args.pages c.args.clock c.args.at (page_of c.args.w) c.comes_in-comes.result c.is_block-block.result c.is_write-write.result c.is_left-left.result
-      c.comes_in-comes.ensures c.is_block-block.ensures c.is_write-write.ensures c.is_left-left.ensures,
-      c.if-barred.false, c.if-away.false, c.if-beyond.false, c.if-waits.true,
+          c.comes_in-comes.ensures c.is_block-block.ensures c.is_write-write.ensures c.is_left-left.ensures,
+      c.if-barred.false,
+      c.if-away.false,
+      lt-leb _ _ c.if-beyond.false,
+      c.if-waits.true,
     )
 
 pub returns : goal.returns
 returns c =
     rw (
       tested c.args.m c.args.phase c.args.pages c.args.clock c.args.at (page_of c.args.w) c.comes_in-comes.result c.is_block-block.result c.is_write-write.result c.is_left-left.result
-      c.comes_in-comes.ensures c.is_block-block.ensures c.is_write-write.ensures c.is_left-left.ensures,
-      c.if-barred.false, c.if-away.false, c.if-beyond.false, c.if-waits.false,
+          c.comes_in-comes.ensures c.is_block-block.ensures c.is_write-write.ensures c.is_left-left.ensures,
+      c.if-barred.false,
+      c.if-away.false,
+      lt-leb _ _ c.if-beyond.false,
+      c.if-waits.false,
     )
     c.move_code.ensures

@@ -1,5 +1,4 @@
 -- Each way out is the definition at the gate's code, the call and the tests that led there.
-use borrow.Author.Rules.{rules}
 use borrow.Author.Tests.{eq-eqb, ne_eqb, le-leb, lt-leb}
 use Rattle.migration.specs.Migration.{alone_verdict}
 use Rattle.migration.proofs.alone_verdict.Goals as goal

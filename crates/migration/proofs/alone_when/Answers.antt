@@ -1,5 +1,4 @@
 -- Each arm is its clause of the definition.
-use borrow.Author.Rules.{rules}
 use Rattle.migration.proofs.alone_when.Goals as goal
 
 pub returns-in-NewEpoch : goal.returns-in-NewEpoch

@@ -1,12 +1,6 @@
 -- What the call comes to is by the gate's code and by what was looked for, and the end of the call answers it.
-use mathlib.Core.Path.{◌≡◌}
 use borrow.Author.Tests.{eq-eqb}
 use Rattle.migration.proofs.Laws.{sweep-told}
-use Rattle.page.specs.Sweeps.{swept_by}
-use Rattle.session.specs.Formed.{gated}
-use Rattle.session.specs.Outcome.{answered_by}
-use Rattle.session.specs.Session.{changed_by}
-use Rattle.migration.specs.Migration.{on_all}
 use Rattle.migration.proofs.on_all.Goals as goal
 
 pub returns : goal.returns
@@ -14,18 +8,18 @@ returns c =
     record {
       value = rw (
         ← sweep-told c.args.k c.args.s c.args.table.now c.gate-gate.result c.is_stopped-stops.result (rw c.sweep_when.ensures at c.gate-gate.ensures)
-        (λ z. rw (eq-eqb _ _ z) at (rw c.stops_at.ensures at c.is_stopped-stops.ensures)),
+            (λ z. rw (eq-eqb _ _ z) at (rw c.stops_at.ensures at c.is_stopped-stops.ensures)),
         ← c.is_busy-busy.ensures,
         ← c.sweep_verdict-made.ensures,
         ← c.changed-next.ensures,
       )
-      c.finish.ensures.value;
+          c.finish.ensures.value;
       table_after = rw (
         ← sweep-told c.args.k c.args.s c.args.table.now c.gate-gate.result c.is_stopped-stops.result (rw c.sweep_when.ensures at c.gate-gate.ensures)
-        (λ z. rw (eq-eqb _ _ z) at (rw c.stops_at.ensures at c.is_stopped-stops.ensures)),
+            (λ z. rw (eq-eqb _ _ z) at (rw c.stops_at.ensures at c.is_stopped-stops.ensures)),
         ← c.is_busy-busy.ensures,
         ← c.sweep_verdict-made.ensures,
         ← c.changed-next.ensures,
       )
-      c.finish.ensures.table_after;
+          c.finish.ensures.table_after;
     }

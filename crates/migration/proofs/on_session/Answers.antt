@@ -1,5 +1,4 @@
 -- The answer is what the call comes to from its gate's code.
-use borrow.Author.Rules.{rules}
 use Rattle.migration.proofs.Laws.{alone-told}
 use Rattle.migration.proofs.on_session.Goals as goal
 

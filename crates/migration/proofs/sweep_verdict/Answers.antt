@@ -1,5 +1,4 @@
 -- Each way out is the definition at the gate's code, the call and the tests that led there.
-use borrow.Author.Rules.{rules}
 use native.Mathlib.Omega.{arith}
 use borrow.Author.Tests.{eq-eqb, ne_eqb, le-leb, lt-leb}
 use Rattle.migration.specs.Migration.{sweep_verdict}

@@ -1,5 +1,4 @@
 -- Each arm is its clause of the definition.
-use borrow.Author.Rules.{rules}
 use Rattle.migration.proofs.sweep_when.Goals as goal
 
 pub returns-in-Track : goal.returns-in-Track

@@ -1,5 +1,4 @@
 -- The number is the record's where no spare bit is set; what it names is the page's state.
-use borrow.Author.Rules.{rules}
 use Rattle.page.specs.Page.{number_read}
 use Rattle.page.proofs.Laws.{read_as}
 use Rattle.page.proofs.state_of.Goals as goal

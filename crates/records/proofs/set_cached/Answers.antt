@@ -1,7 +1,6 @@
 -- The field is run 2 of a record, counted from 0, and a flag is what its bit says.
 use mathlib.Core.Path.{ap, ◌∙◌}
 use lib.Dec.{lit<}
-use borrow.Author.Rules.{rules}
 use Rattle.records.specs.Record.{record_of, with_cached}
 use Rattle.words.proofs.Runs.{bit-lt, flag-bit}
 use Rattle.records.proofs.RecordLaws.{word_zero}

@@ -1,5 +1,4 @@
 -- The definition, with the entries that the function gives.
-use borrow.Author.Rules.{rules}
 use Rattle.scan.specs.Scan.{answer_of}
 use Rattle.scan.proofs.answer.Goals as goal
 

@@ -1,5 +1,5 @@
 -- By the code, which is the definition's: the run from the session's place to the end of the table, or the inputs.
-use mathlib.Core.Path.{◌≡◌, refl, sym, ◌∙◌}
+use mathlib.Core.Path.{sym, ◌∙◌}
 use borrow.Author.Tests.{eq-eqb, ne_eqb}
 use lib.ListN.{length}
 use Rattle.scan.specs.Scan.{checked_by, dcheck_out}

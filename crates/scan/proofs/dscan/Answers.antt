@@ -1,5 +1,5 @@
 -- By the code, which is the definition's: the run of the range, which lies in the table, or the inputs.
-use mathlib.Core.Path.{◌≡◌, refl, sym, ap, ◌∙◌}
+use mathlib.Core.Path.{sym, ap, ◌∙◌}
 use borrow.Author.Tests.{eq-eqb, ne_eqb}
 use lib.ListN.{length}
 use Rattle.scan.specs.Scan.{answer_of, dscan_out}

@@ -1,12 +1,9 @@
 -- What is left to scan gives what the whole scan gives: each round either ends with a code or visits its page and goes on to the next.
 use borrow.Author.Rules.{rules}
-use Rattle.scan.specs.Scan.{scan_run}
 use Rattle.scan.proofs.Laws.{stop-room, scan-stops, scan-visits, scan-ends, parts}
-use lib.ListN.{length}
 use native.Mathlib.Nat.{sub-zero}
 use native.Mathlib.Omega.{arith}
-use mathlib.Core.Path.{◌≡◌, refl, sym, ◌∙◌}
-use Prim.Native.Nat.{◌≤◌, ◌-◌}
+use mathlib.Core.Path.{refl, sym, ◌∙◌}
 use Rattle.scan.proofs.scan_part.Goals as goal
 
 pub loop-i-init : goal.loop-i-init
@@ -35,14 +32,14 @@ visit-put-requires c = stop-room _ _ _ _ _ _ (sym c.stop_code-code.ensures ∙ c
 
 pub loop-i-preserved : goal.loop-i-preserved
 loop-i-preserved c = (
-      omega arith,
-      c.visit-put.auto.part ∙ c.loop-i.invariant.1,
-      c.visit-put.auto.list ∙ c.loop-i.invariant.2,
-      rw (c.visit-put.ensures.value, c.visit-put.ensures.part_after, c.visit-put.ensures.list_after)
-          (sym (scan-visits _ _ _ _ _ _ _ _ _ _ c.loop-i-test.true c.load-words.ensures
-          c.is_blocked-blocked.ensures c.is_listed-listed.ensures c.stop_code-code.ensures c.if-code-ne-DONE.false)
-          ∙ c.loop-i.invariant.3),
-    )
+  omega arith,
+  c.visit-put.auto.part ∙ c.loop-i.invariant.1,
+  c.visit-put.auto.list ∙ c.loop-i.invariant.2,
+  rw (c.visit-put.ensures.value, c.visit-put.ensures.part_after, c.visit-put.ensures.list_after)
+      (sym (scan-visits _ _ _ _ _ _ _ _ _ _ c.loop-i-test.true c.load-words.ensures
+      c.is_blocked-blocked.ensures c.is_listed-listed.ensures c.stop_code-code.ensures c.if-code-ne-DONE.false)
+      ∙ c.loop-i.invariant.3),
+)
 
 pub shape_of-part : goal.shape_of-part
 shape_of-part c = c.loop-i.invariant.1

@@ -1,10 +1,6 @@
-use borrow.Author.Rules.{rules}
 use Rattle.scan.specs.Scan.{scan_run}
-use Rattle.scan.proofs.Laws.{stop-room, scan-stops, scan-visits, scan-ends, parts}
 use lib.ListN.{length}
-use native.Mathlib.Nat.{sub-zero}
-use native.Mathlib.Omega.{arith}
-use mathlib.Core.Path.{◌≡◌, refl, sym, ◌∙◌}
+use mathlib.Core.Path.{◌≡◌}
 use Prim.Native.Nat.{◌≤◌, ◌-◌}
 use Rattle.scan.proofs.scan_part.Given as goal
 

@@ -1,5 +1,4 @@
 -- The part has `count` pages, and its run is that of the definition.
-use borrow.Author.Rules.{rules}
 use Rattle.scan.specs.Scan.{patched, range_run}
 use Rattle.scan.proofs.Laws.{part-pages}
 use native.Mathlib.Omega.{arith}

@@ -1,6 +1,5 @@
 -- A page that is listed is stored and its word written, for which there is room; else all stays.
 use borrow.Author.Rules.{rules}
-use mathlib.Core.Path.{refl}
 use Rattle.scan.proofs.visit.Goals as goal
 
 pub offset_bounds-list-put : goal.offset_bounds-list-put

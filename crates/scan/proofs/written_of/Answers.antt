@@ -1,5 +1,4 @@
 -- Both ways out are the definition at the test.
-use borrow.Author.Rules.{rules}
 use borrow.Author.Tests.{eq-eqb, ne_eqb}
 use Rattle.scan.specs.Scan.{written_of}
 use Rattle.scan.proofs.written_of.Goals as goal

@@ -1,5 +1,4 @@
 -- Each arm is the row of its phase.
-use borrow.Author.Rules.{rules}
 use Rattle.session.proofs.comes_in.Goals as goal
 
 pub returns-in-Idle : goal.returns-in-Idle

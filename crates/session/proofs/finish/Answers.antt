@@ -1,8 +1,6 @@
 -- By the code: everything as it came, or the swept table.
-use borrow.Author.Rules.{rules}
 use Rattle.session.specs.Outcome.{answered}
 use borrow.Author.Tests.{eq-eqb, ne_eqb}
-use mathlib.Core.Path.{refl}
 use Rattle.session.proofs.finish.Goals as goal
 
 pub returns-then-code-ne-DONE : goal.returns-then-code-ne-DONE

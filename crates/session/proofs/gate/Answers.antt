@@ -1,5 +1,4 @@
 -- Each way out is the definition at the test that led there.
-use borrow.Author.Rules.{rules}
 use Rattle.session.specs.Formed.{gated}
 use Rattle.session.proofs.gate.Goals as goal
 

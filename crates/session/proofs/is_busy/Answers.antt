@@ -1,5 +1,4 @@
 -- It is what is found.
-use borrow.Author.Rules.{rules}
 use mathlib.Core.Path.{ap}
 use Rattle.session.specs.declared.streams.Found.{Found}
 use Rattle.session.proofs.is_busy.Goals as goal

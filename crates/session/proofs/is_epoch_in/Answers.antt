@@ -1,5 +1,4 @@
 -- By the phase's row: in Idle, and elsewhere.
-use borrow.Author.Rules.{rules}
 use Rattle.session.specs.declared.Comes.{Comes}
 use mathlib.Core.Path.{ap}
 use Rattle.session.proofs.is_epoch_in.Goals as goal

@@ -1,5 +1,4 @@
 -- The tests are the cases of the definition, in its order.
-use borrow.Author.Rules.{rules}
 use Rattle.session.proofs.FormedLaws.{formed-from}
 use Rattle.session.proofs.is_formed.Goals as goal
 

@@ -1,5 +1,4 @@
 -- Each arm is its column of the phase's row.
-use borrow.Author.Rules.{rules}
 use Rattle.session.specs.declared.Comes.{Comes}
 use mathlib.Core.Path.{ap}
 use Rattle.session.proofs.is_in.Goals as goal

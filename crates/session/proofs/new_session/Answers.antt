@@ -1,5 +1,4 @@
 -- The definition's fields, with the check and the streams that the two functions give.
-use borrow.Author.Rules.{rules}
 use Rattle.session.proofs.new_session.Goals as goal
 
 pub returns : goal.returns

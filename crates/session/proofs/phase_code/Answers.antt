@@ -1,5 +1,4 @@
 -- Each way out is the definition at the test that led there.
-use borrow.Author.Rules.{rules}
 use Rattle.session.proofs.phase_code.Goals as goal
 
 pub returns-then-not-comes : goal.returns-then-not-comes

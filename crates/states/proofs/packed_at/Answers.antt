@@ -1,5 +1,4 @@
 -- Each branch says what the definition does.
-use borrow.Author.Rules.{rules}
 use borrow.Author.Tests.{lt-ltb, le-ltb}
 use Rattle.states.specs.Masks.{packed_at}
 use Rattle.states.proofs.packed_at.Goals as goal

@@ -1,5 +1,4 @@
 -- Each branch says what the mask did.
-use borrow.Author.Rules.{rules}
 use Rattle.states.proofs.pick.Goals as goal
 
 pub returns-then-is_in : goal.returns-then-is_in

@@ -1,13 +1,12 @@
 -- What is left to search gives what the whole search gives: each round either ends with the page it is at or goes on to the next.
 use borrow.Author.Rules.{rules}
-use Rattle.table.specs.Table.{lowest}
 use Rattle.table.proofs.Laws.{lowest-found, lowest-next, lowest-end}
 use Rattle.page.specs.Page.{sought}
 use lib.ListN.{length}
 use native.Mathlib.Nat.{sub-zero}
 use native.Mathlib.Omega.{arith}
 use mathlib.Core.Path.{◌≡◌, sym, ◌∙◌}
-use Prim.Native.Nat.{◌≤◌, ◌-◌, ◌/◌}
+use Prim.Native.Nat.{◌/◌}
 use Rattle.table.proofs.find.Goals as goal
 
 pub loop-i-init : goal.loop-i-init
@@ -19,10 +18,10 @@ returns-then-is_sought c = sym (lowest-found (sought c.args.k) _ _ _ c.loop-i-te
 
 pub loop-i-preserved : goal.loop-i-preserved
 loop-i-preserved c = (
-      omega arith,
-      sym (lowest-next (sought c.args.k) _ _ _ c.loop-i-test.true (rw (← c.load-w.ensures, ← c.is_sought.ensures) c.if-is_sought.false))
-          ∙ c.loop-i.invariant.1,
-    )
+  omega arith,
+  sym (lowest-next (sought c.args.k) _ _ _ c.loop-i-test.true (rw (← c.load-w.ensures, ← c.is_sought.ensures) c.if-is_sought.false))
+      ∙ c.loop-i.invariant.1,
+)
 
 pub returns : goal.returns
 returns c = let end : c.loop-i.i ≡ length c.args.table.now / 2 = omega arith in

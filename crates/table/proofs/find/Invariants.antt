@@ -1,12 +1,7 @@
-use borrow.Author.Rules.{rules}
 use Rattle.table.specs.Table.{lowest}
-use Rattle.table.proofs.Laws.{lowest-found, lowest-next, lowest-end}
 use Rattle.page.specs.Page.{sought}
-use lib.ListN.{length}
-use native.Mathlib.Nat.{sub-zero}
-use native.Mathlib.Omega.{arith}
-use mathlib.Core.Path.{◌≡◌, sym, ◌∙◌}
-use Prim.Native.Nat.{◌≤◌, ◌-◌, ◌/◌}
+use mathlib.Core.Path.{◌≡◌}
+use Prim.Native.Nat.{◌≤◌, ◌-◌}
 use Rattle.table.proofs.find.Given as goal
 
 abbrev pub invariant-loop-i : goal.invariant-loop-i

@@ -1,5 +1,4 @@
 -- The search stops before the end exactly where the definition says that it finds one.
-use borrow.Author.Rules.{rules}
 use Rattle.table.specs.Table.{some}
 use Rattle.table.proofs.has.Goals as goal
 

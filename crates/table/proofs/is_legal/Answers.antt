@@ -1,5 +1,4 @@
 -- The three tests are the definition's.
-use borrow.Author.Rules.{rules}
 use mathlib.Core.Path.{refl}
 use Rattle.table.specs.Table.{legal}
 use Rattle.table.proofs.is_legal.Goals as goal

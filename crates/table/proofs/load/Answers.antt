@@ -1,5 +1,4 @@
 -- Each way out is the definition at the test that led there.
-use borrow.Author.Rules.{rules}
 use Rattle.table.specs.Table.{words_at}
 use borrow.Author.Tests.{lt-ltb, le-ltb}
 use Rattle.table.proofs.load.Goals as goal

@@ -1,5 +1,4 @@
 -- Each way out is the definition at the test that led there.
-use borrow.Author.Rules.{rules}
 use Rattle.table.specs.Table.{put_at}
 use native.Mathlib.Omega.{arith}
 use lib.ListN.{length-set}

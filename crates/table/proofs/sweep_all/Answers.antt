@@ -2,12 +2,12 @@
 use borrow.Author.Rules.{rules}
 use Rattle.page.specs.Page.{on_words}
 use Rattle.page.specs.Sweeps.{swept_by}
-use Rattle.table.proofs.Laws.{sweep_first, sweep-first}
+use Rattle.table.proofs.Laws.{sweep-first}
 use lib.ListN.{length}
 use native.Mathlib.Numerals.{add-one}
 use native.Mathlib.Omega.{arith}
 use mathlib.Core.Path.{◌≡◌, refl, ◌∙◌}
-use Prim.Native.Nat.{◌≤◌, ◌-◌, ◌/◌}
+use Prim.Native.Nat.{◌/◌}
 use Rattle.table.proofs.sweep_all.Goals as goal
 
 pub loop-i-init : goal.loop-i-init
@@ -15,10 +15,10 @@ loop-i-init c = (search rules, refl, refl)
 
 pub loop-i-preserved : goal.loop-i-preserved
 loop-i-preserved c = (
-      omega arith,
-      rw (add-one c.loop-i.i, c.store.ensures, c.sweep_words-after.ensures, c.load-before.ensures, c.loop-i.invariant.1),
-      c.store.auto.table ∙ c.loop-i.invariant.2,
-    )
+  omega arith,
+  rw (add-one c.loop-i.i, c.store.ensures, c.sweep_words-after.ensures, c.load-before.ensures, c.loop-i.invariant.1),
+  c.store.auto.table ∙ c.loop-i.invariant.2,
+)
 
 pub returns : goal.returns
 returns c = let end : c.loop-i.i ≡ length c.args.table.now / 2 = omega arith in

@@ -1,12 +1,9 @@
-use borrow.Author.Rules.{rules}
 use Rattle.page.specs.Page.{on_words}
 use Rattle.page.specs.Sweeps.{swept_by}
-use Rattle.table.proofs.Laws.{sweep_first, sweep-first}
+use Rattle.table.proofs.Laws.{sweep_first}
 use lib.ListN.{length}
-use native.Mathlib.Numerals.{add-one}
-use native.Mathlib.Omega.{arith}
-use mathlib.Core.Path.{◌≡◌, refl, ◌∙◌}
-use Prim.Native.Nat.{◌≤◌, ◌-◌, ◌/◌}
+use mathlib.Core.Path.{◌≡◌}
+use Prim.Native.Nat.{◌≤◌, ◌-◌}
 use Rattle.table.proofs.sweep_all.Given as goal
 
 abbrev pub invariant-loop-i : goal.invariant-loop-i

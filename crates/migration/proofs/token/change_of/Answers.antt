@@ -1,5 +1,4 @@
 -- Each arm is a clause of the definition.
-use borrow.Author.Rules.{rules}
 use Rattle.migration.proofs.token.change_of.Goals as goal
 
 pub returns-in-Granted : goal.returns-in-Granted

@@ -1,5 +1,4 @@
 -- By what is asked.
-use borrow.Author.Rules.{rules}
 use Rattle.migration.proofs.token.first.Goals as goal
 
 pub returns-then-asked : goal.returns-then-asked

@@ -1,5 +1,4 @@
 -- What is looked for is what the token asks for; the numbers of its case are by the law.
-use borrow.Author.Rules.{rules}
 use mathlib.Core.Path.{◌≡◌, refl}
 use mathlib.Core.List.{List}
 use Prim.Native.Nat.{ℕ}
@@ -26,7 +25,7 @@ returns c =
     let told = token-told a.s t _ _ _ _ gate refl (λ z. rw (eq-eqb _ _ z) at c.first-first53.ensures)
     (λ z h. rw (eq-eqb _ _ z, le-leb _ _ h) at c.first-first54.ensures) in
     let answer = rw (← c.token_of-token.ensures, ← c.change_of.ensures, ← c.changed-session.ensures) at told in
-     record {
+    record {
       value = answer;
       token_value = numbers a.s t _ answer;
     }

@@ -1,5 +1,4 @@
 -- Each arm is the list of its call.
-use borrow.Author.Rules.{rules}
 use Rattle.states.specs.States.{number_by}
 use Rattle.page.proofs.moves.goal.Goals as goal
 

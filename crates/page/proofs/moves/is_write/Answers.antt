@@ -1,5 +1,4 @@
 -- Each arm is its clause of the definition.
-use borrow.Author.Rules.{rules}
 use Rattle.page.proofs.moves.is_write.Goals as goal
 
 pub returns-in-Write : goal.returns-in-Write

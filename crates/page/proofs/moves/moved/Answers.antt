@@ -1,5 +1,4 @@
 -- Each arm is its clause of the definition.
-use borrow.Author.Rules.{rules}
 use Rattle.states.specs.States.{goes_by}
 use Rattle.states.specs.Lists.{adds, accepts, blocks, unblocks, removes}
 use Rattle.page.specs.Page.{page_of}

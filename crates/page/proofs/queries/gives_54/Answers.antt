@@ -1,5 +1,4 @@
 -- What is asked of the number is what the definition asks of the state that it names.
-use borrow.Author.Rules.{rules}
 use Rattle.page.specs.Page.{gives54}
 use Rattle.page.proofs.queries.gives_54.Goals as goal
 

@@ -1,5 +1,4 @@
 -- What is asked of the number is asked of the state that it names.
-use borrow.Author.Rules.{rules}
 use Rattle.page.proofs.queries.is_blocked.Goals as goal
 
 pub returns : goal.returns

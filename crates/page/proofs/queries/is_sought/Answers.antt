@@ -1,5 +1,4 @@
 -- Each arm is its clause of the definition.
-use borrow.Author.Rules.{rules}
 use Rattle.page.proofs.queries.is_sought.Goals as goal
 
 pub returns-in-Blocked : goal.returns-in-Blocked

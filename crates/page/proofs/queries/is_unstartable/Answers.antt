@@ -1,5 +1,4 @@
 -- What is asked of the number is asked of the state that it names.
-use borrow.Author.Rules.{rules}
 use mathlib.Core.Path.{ap}
 use mathlib.Core.Bool.{not}
 use Rattle.page.proofs.queries.is_unstartable.Goals as goal

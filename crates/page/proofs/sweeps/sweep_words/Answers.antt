@@ -1,5 +1,4 @@
 -- A strange record stays, and any other is swept.
-use borrow.Author.Rules.{rules}
 use mathlib.Core.Path.{sym, ap, ◌∙◌}
 use Rattle.states.specs.States.{is_strange}
 use Rattle.page.specs.Page.{on_words}

@@ -1,5 +1,4 @@
 -- What is asked of the number is what the definition asks of the state that it names.
-use borrow.Author.Rules.{rules}
 use mathlib.Core.Path.{ap}
 use Rattle.records.specs.declared.Record.{Record}
 use Rattle.page.specs.Page.{page_of}

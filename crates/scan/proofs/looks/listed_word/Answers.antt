@@ -1,5 +1,4 @@
 -- The word is written of what the number's state gives.
-use borrow.Author.Rules.{rules}
 use Rattle.scan.specs.Look.{listed_word}
 use Rattle.scan.proofs.looks.listed_word.Goals as goal
 

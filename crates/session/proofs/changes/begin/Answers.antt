@@ -1,5 +1,4 @@
 -- The session in another phase, with epoch, check and streams set.
-use borrow.Author.Rules.{rules}
 use Rattle.session.proofs.changes.begin.Goals as goal
 
 pub returns : goal.returns

@@ -1,5 +1,4 @@
 -- Each way out is the definition at the change that led there.
-use borrow.Author.Rules.{rules}
 use Rattle.session.proofs.changes.changed.Goals as goal
 
 pub returns-in-Nothing : goal.returns-in-Nothing

@@ -3,10 +3,8 @@ use borrow.Author.Rules.{rules}
 use native.Mathlib.Numerals.{add-one}
 use native.Mathlib.Omega.{arith}
 use mathlib.Core.Path.{◌≡◌, refl, ap, ◌∙◌}
-use Prim.Native.Nat.{ℕ, ◌≤◌, ◌-◌}
 use Rattle.session.specs.Session.{stream_places}
-use Rattle.session.specs.Formed.{some_below, interrupted, out_of_range, out_of_place, busy}
-use Rattle.session.specs.declared.Session.{Session}
+use Rattle.session.specs.Formed.{busy}
 use Rattle.session.specs.declared.streams.Found.{Found}
 use Rattle.session.proofs.streams.find_interrupted.Goals as goal
 use Rattle.session.proofs.streams.find_interrupted.Invariants.{found_below}
@@ -16,17 +14,17 @@ loop-i-init c = (search rules, refl)
 
 pub loop-i-preserved : goal.loop-i-preserved
 loop-i-preserved c = let found = c.loop-i.invariant.1 in (
-      omega arith,
-      rw (
-        add-one c.loop-i.i,
-        ap (λ (x : Found). x.any) found,
-        ap (λ (x : Found). x.outside) found,
-        ap (λ (x : Found). x.unusable) found,
-        c.is_resting-resting.ensures,
-        c.is_in_range-in_range.ensures,
-        c.is_usable-usable.ensures,
-      ),
-    )
+  omega arith,
+  rw (
+    add-one c.loop-i.i,
+    ap (λ (x : Found). x.any) found,
+    ap (λ (x : Found). x.outside) found,
+    ap (λ (x : Found). x.unusable) found,
+    c.is_resting-resting.ensures,
+    c.is_in_range-in_range.ensures,
+    c.is_usable-usable.ensures,
+  ),
+)
 
 pub returns : goal.returns
 unfolding busy

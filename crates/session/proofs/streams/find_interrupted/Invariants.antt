@@ -1,10 +1,7 @@
-use borrow.Author.Rules.{rules}
-use native.Mathlib.Numerals.{add-one}
-use native.Mathlib.Omega.{arith}
-use mathlib.Core.Path.{◌≡◌, refl, ap, ◌∙◌}
+use mathlib.Core.Path.{◌≡◌}
 use Prim.Native.Nat.{ℕ, ◌≤◌, ◌-◌}
 use Rattle.session.specs.Session.{stream_places}
-use Rattle.session.specs.Formed.{some_below, interrupted, out_of_range, out_of_place, busy}
+use Rattle.session.specs.Formed.{some_below, interrupted, out_of_range, out_of_place}
 use Rattle.session.specs.declared.Session.{Session}
 use Rattle.session.specs.declared.streams.Found.{Found}
 use Rattle.session.proofs.streams.find_interrupted.Given as goal

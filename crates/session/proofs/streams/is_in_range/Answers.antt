@@ -1,5 +1,4 @@
 -- Each arm is its clause of the definition.
-use borrow.Author.Rules.{rules}
 use Rattle.session.proofs.streams.is_in_range.Goals as goal
 
 pub returns-in-Interrupted : goal.returns-in-Interrupted

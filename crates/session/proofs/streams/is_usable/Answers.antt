@@ -1,5 +1,4 @@
 -- Past the first test N is above the index, so that its successor is a number.
-use borrow.Author.Rules.{rules}
 use borrow.Author.Tests.{le-ltb}
 use Rattle.session.proofs.Laws.{below_next}
 use Rattle.session.proofs.streams.is_usable.Goals as goal

@@ -1,5 +1,4 @@
 -- The eight places are the list's.
-use borrow.Author.Rules.{rules}
 use borrow.Author.Tests.{lt-ltb, le-ltb}
 use Rattle.session.specs.Session.{with_work}
 use Rattle.session.proofs.streams.with_work.Goals as goal

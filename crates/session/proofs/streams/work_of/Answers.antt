@@ -1,5 +1,4 @@
 -- The eight places are the list's.
-use borrow.Author.Rules.{rules}
 use borrow.Author.Tests.{lt-ltb, le-ltb}
 use Rattle.session.specs.Session.{work_of}
 use Rattle.session.proofs.streams.work_of.Goals as goal

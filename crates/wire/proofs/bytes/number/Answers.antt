@@ -1,5 +1,4 @@
 -- The words of the bytes are read in place.
-use borrow.Author.Rules.{rules}
 use native.Mathlib.Omega.{arith}
 use mathlib.Core.Path.{◌∙◌, sym}
 use Rattle.wire.proofs.BytesLaws.{words-at}

@@ -1,5 +1,4 @@
 -- The code's places at + 1, at + 2 and at + 3 are the successors that the definition counts by.
-use borrow.Author.Rules.{rules}
 use mathlib.Core.Path.{◌≡◌}
 use Prim.Native.Nat.{suc, ◌+◌}
 use native.Mathlib.Omega.{arith}

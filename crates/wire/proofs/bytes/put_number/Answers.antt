@@ -1,5 +1,4 @@
 -- One word is put.
-use borrow.Author.Rules.{rules}
 use mathlib.Core.Path.{◌∙◌}
 use Rattle.wire.proofs.ChangeLaws.{put_one}
 use Rattle.wire.proofs.bytes.put_number.Goals as goal

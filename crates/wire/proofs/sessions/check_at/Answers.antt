@@ -1,5 +1,4 @@
 -- The three words of the check, in their places.
-use borrow.Author.Rules.{rules}
 use Rattle.wire.specs.Sessions.{session_of}
 use Rattle.wire.proofs.sessions.check_at.Goals as goal
 

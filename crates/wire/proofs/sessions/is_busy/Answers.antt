@@ -3,7 +3,6 @@ use borrow.Author.Rules.{rules}
 use native.Mathlib.Omega.{arith}
 use native.Mathlib.Numerals.{add-one}
 use mathlib.Core.Path.{◌≡◌, refl, ap, ◌∙◌}
-use Prim.Native.Nat.{◌≤◌, ◌-◌}
 use Rattle.session.specs.Session.{stream_places}
 use Rattle.session.specs.Formed.{some_below, interrupted, busy}
 use Rattle.wire.specs.Bytes.{words_of}

@@ -1,13 +1,9 @@
-use borrow.Author.Rules.{rules}
-use native.Mathlib.Omega.{arith}
-use native.Mathlib.Numerals.{add-one}
-use mathlib.Core.Path.{◌≡◌, refl, ap, ◌∙◌}
+use mathlib.Core.Path.{◌≡◌}
 use Prim.Native.Nat.{◌≤◌, ◌-◌}
 use Rattle.session.specs.Session.{stream_places}
-use Rattle.session.specs.Formed.{some_below, interrupted, busy}
+use Rattle.session.specs.Formed.{some_below, interrupted}
 use Rattle.wire.specs.Bytes.{words_of}
 use Rattle.wire.specs.Sessions.{session_of}
-use Rattle.wire.proofs.FormedInPlace.{flag-tells}
 use Rattle.wire.proofs.sessions.is_busy.Given as goal
 
 abbrev pub invariant-loop-i : goal.invariant-loop-i

@@ -1,5 +1,4 @@
 -- A number of the session, in its place.
-use borrow.Author.Rules.{rules}
 use Rattle.wire.specs.Sessions.{session_of}
 use Rattle.wire.proofs.sessions.pages_at.Goals as goal
 

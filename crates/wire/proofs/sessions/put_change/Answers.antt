@@ -1,5 +1,4 @@
 -- Each way out is the definition at the change that led there.
-use borrow.Author.Rules.{rules}
 use borrow.Author.Tests.{lt-ltb, le-ltb}
 use Rattle.wire.specs.Sessions.{written_by}
 use Rattle.wire.proofs.sessions.put_change.Goals as goal
@@ -27,14 +26,14 @@ returns-in-ToCheck c = rw c.in-ToCheck.is c.put_check.ensures
 pub returns-in-Begin : goal.returns-in-Begin
 unfolding written_by
 returns-in-Begin c = rw (
-      c.in-Begin.is,
-      c.rest_streams.ensures,
-      c.put_check-in-Begin.ensures,
-      c.no_check.ensures,
-      c.put_number-in-Begin-2.ensures,
-      c.put_number-in-Begin.ensures,
-      c.number_of-in-Begin.ensures,
-    )
+  c.in-Begin.is,
+  c.rest_streams.ensures,
+  c.put_check-in-Begin.ensures,
+  c.no_check.ensures,
+  c.put_number-in-Begin-2.ensures,
+  c.put_number-in-Begin.ensures,
+  c.number_of-in-Begin.ensures,
+)
 
 pub returns-then-stream : goal.returns-then-stream
 unfolding written_by

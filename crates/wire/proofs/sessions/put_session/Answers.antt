@@ -1,5 +1,4 @@
 -- The parts' words, put one behind the other into as many places as there are words.
-use borrow.Author.Rules.{rules}
 use mathlib.Core.Path.{refl, ◌∙◌}
 use mathlib.Core.List.{◌++◌}
 use Rattle.session.specs.Session.{stream_places}

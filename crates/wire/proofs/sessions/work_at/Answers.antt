@@ -1,5 +1,4 @@
 -- Each way out is the definition at the tests that led there.
-use borrow.Author.Rules.{rules}
 use borrow.Author.Tests.{le-ltb, eq-eqb, ne_eqb}
 use mathlib.Core.Path.{ap, ◌∙◌}
 use Rattle.session.specs.Session.{work_of}

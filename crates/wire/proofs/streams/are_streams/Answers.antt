@@ -3,10 +3,8 @@ use borrow.Author.Rules.{rules}
 use native.Mathlib.Omega.{arith}
 use native.Mathlib.Numerals.{add-one}
 use mathlib.Core.Path.{◌≡◌, refl, sym, ap, ◌∙◌}
-use mathlib.Core.Bool.{false, not}
-use Prim.Native.Nat.{◌≤◌, ◌-◌}
+use mathlib.Core.Bool.{not}
 use Rattle.session.specs.Session.{stream_places}
-use Rattle.session.specs.Formed.{some_below}
 use Rattle.wire.specs.Bytes.{words_of}
 use Rattle.wire.specs.Sessions.{streams_formed}
 use Rattle.wire.proofs.FormedInPlace.{wrong_in, some-there}

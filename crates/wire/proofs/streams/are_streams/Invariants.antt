@@ -1,14 +1,10 @@
-use borrow.Author.Rules.{rules}
-use native.Mathlib.Omega.{arith}
-use native.Mathlib.Numerals.{add-one}
-use mathlib.Core.Path.{◌≡◌, refl, sym, ap, ◌∙◌}
-use mathlib.Core.Bool.{false, not}
+use mathlib.Core.Path.{◌≡◌}
+use mathlib.Core.Bool.{false}
 use Prim.Native.Nat.{◌≤◌, ◌-◌}
 use Rattle.session.specs.Session.{stream_places}
 use Rattle.session.specs.Formed.{some_below}
 use Rattle.wire.specs.Bytes.{words_of}
-use Rattle.wire.specs.Sessions.{streams_formed}
-use Rattle.wire.proofs.FormedInPlace.{wrong_in, some-there}
+use Rattle.wire.proofs.FormedInPlace.{wrong_in}
 use Rattle.wire.proofs.streams.are_streams.Given as goal
 
 abbrev pub invariant-loop-i : goal.invariant-loop-i

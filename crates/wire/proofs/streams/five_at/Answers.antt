@@ -1,5 +1,4 @@
 -- Word by word.
-use borrow.Author.Rules.{rules}
 use Rattle.wire.proofs.streams.five_at.Goals as goal
 
 pub returns : goal.returns

@@ -1,14 +1,13 @@
 -- Five words, one behind the other.
-use borrow.Author.Rules.{rules}
 use Rattle.wire.proofs.ChangeLaws.{put_five}
 use Rattle.wire.proofs.streams.put_five.Goals as goal
 
 pub returns : goal.returns
 returns c = rw (
-      c.put_number-5.ensures,
-      c.put_number-4.ensures,
-      c.put_number-3.ensures,
-      c.put_number-2.ensures,
-      c.put_number.ensures,
-    )
+  c.put_number-5.ensures,
+  c.put_number-4.ensures,
+  c.put_number-3.ensures,
+  c.put_number-2.ensures,
+  c.put_number.ensures,
+)
     (put_five _ c.args.at _ _ _ _ _)

@@ -1,5 +1,4 @@
 -- The words of the work, in its stream's place.
-use borrow.Author.Rules.{rules}
 use Rattle.wire.proofs.streams.put_work.Goals as goal
 
 pub returns : goal.returns

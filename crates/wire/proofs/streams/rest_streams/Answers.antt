@@ -1,5 +1,4 @@
 -- A part of the bytes, cleared.
-use borrow.Author.Rules.{rules}
 use native.Mathlib.Omega.{arith}
 use mathlib.Core.Path.{◌≡◌}
 use lib.ListN.{length, take, drop, length-drop}

@@ -1,5 +1,4 @@
 -- Each arm is its clause of the definition.
-use borrow.Author.Rules.{rules}
 use Rattle.wire.proofs.streams.stream_words.Goals as goal
 
 pub returns-in-AtRest : goal.returns-in-AtRest

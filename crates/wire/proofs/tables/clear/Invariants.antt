@@ -1,11 +1,6 @@
-use borrow.Author.Rules.{rules}
-use lib.Seq.{take-suc-set, take_all}
-use lib.ListN.{length, take, replicate, replicate-append-replicate, length-set}
-use native.Mathlib.Numerals.{add-one}
-use native.Mathlib.Omega.{arith}
-use mathlib.Core.List.{List, [], ◌∷◌, ◌++◌}
-use mathlib.Core.Path.{◌≡◌, refl, ap, ◌∙◌}
-use Prim.Native.Nat.{ℕ, ◌≤◌, ◌-◌}
+use lib.ListN.{length, take, replicate}
+use mathlib.Core.Path.{◌≡◌}
+use Prim.Native.Nat.{◌≤◌, ◌-◌}
 use Rattle.wire.proofs.tables.clear.Given as goal
 
 abbrev pub invariant-loop-i : goal.invariant-loop-i

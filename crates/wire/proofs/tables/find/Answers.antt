@@ -11,7 +11,7 @@ use native.Mathlib.Omega.{arith}
 use mathlib.Core.Bool.{Bool}
 use mathlib.Core.List.{List}
 use mathlib.Core.Path.{◌≡◌, sym, ◌∙◌}
-use Prim.Native.Nat.{ℕ, ◌≤◌, ◌-◌, ◌/◌}
+use Prim.Native.Nat.{ℕ, ◌/◌}
 use Rattle.wire.proofs.tables.find.Goals as goal
 
 -- the search of the contract
@@ -27,10 +27,10 @@ returns-then-is_sought c = sym (lowest-found (sought c.args.k) _ _ _ c.loop-i-te
 
 pub loop-i-preserved : goal.loop-i-preserved
 loop-i-preserved c = (
-      omega arith,
-      sym (lowest-next (sought c.args.k) _ _ _ c.loop-i-test.true (rw (← c.load-w.ensures, ← c.is_sought.ensures) c.if-is_sought.false))
-          ∙ c.loop-i.invariant.1,
-    )
+  omega arith,
+  sym (lowest-next (sought c.args.k) _ _ _ c.loop-i-test.true (rw (← c.load-w.ensures, ← c.is_sought.ensures) c.if-is_sought.false))
+      ∙ c.loop-i.invariant.1,
+)
 
 pub returns : goal.returns
 returns c = let b = c.args.b.now in

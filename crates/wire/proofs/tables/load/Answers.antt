@@ -1,5 +1,4 @@
 -- Each way out is the definition at the test that led there; word j of the bytes is at 8 * j.
-use borrow.Author.Rules.{rules}
 use mathlib.Core.Path.{◌≡◌}
 use mathlib.Core.List.{List}
 use Prim.Native.Nat.{ℕ, ◌+◌, ◌*◌, ◌/◌, ◌<◌, ◌≤◌}

@@ -1,5 +1,4 @@
 -- Each way out is the definition at the test that led there.
-use borrow.Author.Rules.{rules}
 use borrow.Author.Tests.{lt-ltb, le-ltb}
 use Rattle.wire.specs.Tables.{put_page}
 use Rattle.wire.proofs.tables.store.Goals as goal

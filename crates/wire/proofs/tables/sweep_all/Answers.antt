@@ -1,14 +1,14 @@
 -- After i rounds the words are the sweep of their first i pages, after all rounds of all of them (`sweep-first`); and the bytes are those of the words.
 use borrow.Author.Rules.{rules}
 use mathlib.Core.Path.{◌≡◌, refl, sym, ap, ◌∙◌}
-use Prim.Native.Nat.{◌≤◌, ◌-◌, ◌/◌}
+use Prim.Native.Nat.{◌/◌}
 use native.Mathlib.Numerals.{add-one}
 use native.Mathlib.Omega.{arith}
 use lib.ListN.{length}
 use Rattle.page.specs.Page.{on_words}
 use Rattle.page.specs.Sweeps.{swept_by}
-use Rattle.table.proofs.Laws.{sweep_first, sweep-first}
-use Rattle.wire.specs.Bytes.{words_of, bytes_of, Bytes}
+use Rattle.table.proofs.Laws.{sweep-first}
+use Rattle.wire.specs.Bytes.{words_of, bytes_of}
 use Rattle.wire.proofs.BytesLaws.{bytes_back, words-put, page-count}
 use Rattle.wire.proofs.tables.sweep_all.Goals as goal
 

@@ -1,14 +1,10 @@
-use borrow.Author.Rules.{rules}
-use mathlib.Core.Path.{◌≡◌, refl, sym, ap, ◌∙◌}
-use Prim.Native.Nat.{◌≤◌, ◌-◌, ◌/◌}
-use native.Mathlib.Numerals.{add-one}
-use native.Mathlib.Omega.{arith}
+use mathlib.Core.Path.{◌≡◌}
+use Prim.Native.Nat.{◌≤◌, ◌-◌}
 use lib.ListN.{length}
 use Rattle.page.specs.Page.{on_words}
 use Rattle.page.specs.Sweeps.{swept_by}
-use Rattle.table.proofs.Laws.{sweep_first, sweep-first}
-use Rattle.wire.specs.Bytes.{words_of, bytes_of, Bytes}
-use Rattle.wire.proofs.BytesLaws.{bytes_back, words-put, page-count}
+use Rattle.table.proofs.Laws.{sweep_first}
+use Rattle.wire.specs.Bytes.{words_of, Bytes}
 use Rattle.wire.proofs.tables.sweep_all.Given as goal
 
 abbrev pub invariant-loop-i : goal.invariant-loop-i

@@ -1,10 +1,9 @@
 -- Each row of the table says what the rule says of its 32 numbers: antt computes both, and one law turns the test into the rule.
 use mathlib.Core.Path.{◌≡◌, sym, ap, ◌∙◌}
 use mathlib.Core.Bool.{cond}
-use Prim.Native.Nat.{ℕ, ◌*◌, ◌/◌, ◌%◌, ◌^◌, ◌<◌}
+use Prim.Native.Nat.{ℕ, ◌*◌, ◌/◌, ◌%◌, ◌^◌}
 use native.Mathlib.Omega.{arith}
 use lib.Dec.{T, eqb}
-use borrow.Author.Rules.{rules}
 use borrow.Author.Tests.{ne_eqb}
 use Rattle.words.specs.declared.classes.Class.{Class}
 use Rattle.words.specs.declared.classes.Class.TheVariants.{Free, NonLeaf, Leaf, Unlisted}
@@ -34,7 +33,7 @@ unfolding stands
 returns-in-0-2 c =
     let s = c.args.s in
     let told : says c.match-s-div32.row s ≡ class_of s =
-      elim c.match-s-div32.branch [ in-0 w ↦ in_row 0 s tt w.in-0.is w.row-is | in-1 w ↦ in_row 1 s tt w.in-1.is w.row-is | in-2 w ↦ in_row 2 s tt w.in-2.is w.row-is | in-3 w ↦ in_row 3 s tt w.in-3.is w.row-is | in-4 w ↦ in_row 4 s tt w.in-4.is w.row-is | in-5 w ↦ in_row 5 s tt w.in-5.is w.row-is | in-6 w ↦ in_row 6 s tt w.in-6.is w.row-is | in_default w ↦ in_row 7 s tt (omega arith) w.row-is ] in
+    elim c.match-s-div32.branch [ in-0 w ↦ in_row 0 s tt w.in-0.is w.row-is | in-1 w ↦ in_row 1 s tt w.in-1.is w.row-is | in-2 w ↦ in_row 2 s tt w.in-2.is w.row-is | in-3 w ↦ in_row 3 s tt w.in-3.is w.row-is | in-4 w ↦ in_row 4 s tt w.in-4.is w.row-is | in-5 w ↦ in_row 5 s tt w.in-5.is w.row-is | in-6 w ↦ in_row 6 s tt w.in-6.is w.row-is | in_default w ↦ in_row 7 s tt (omega arith) w.row-is ] in
     sym (ap named c.in-0-2.is) ∙ told
 
 pub returns-in-1-2 : goal.returns-in-1-2
@@ -42,7 +41,7 @@ unfolding stands
 returns-in-1-2 c =
     let s = c.args.s in
     let told : says c.match-s-div32.row s ≡ class_of s =
-      elim c.match-s-div32.branch [ in-0 w ↦ in_row 0 s tt w.in-0.is w.row-is | in-1 w ↦ in_row 1 s tt w.in-1.is w.row-is | in-2 w ↦ in_row 2 s tt w.in-2.is w.row-is | in-3 w ↦ in_row 3 s tt w.in-3.is w.row-is | in-4 w ↦ in_row 4 s tt w.in-4.is w.row-is | in-5 w ↦ in_row 5 s tt w.in-5.is w.row-is | in-6 w ↦ in_row 6 s tt w.in-6.is w.row-is | in_default w ↦ in_row 7 s tt (omega arith) w.row-is ] in
+    elim c.match-s-div32.branch [ in-0 w ↦ in_row 0 s tt w.in-0.is w.row-is | in-1 w ↦ in_row 1 s tt w.in-1.is w.row-is | in-2 w ↦ in_row 2 s tt w.in-2.is w.row-is | in-3 w ↦ in_row 3 s tt w.in-3.is w.row-is | in-4 w ↦ in_row 4 s tt w.in-4.is w.row-is | in-5 w ↦ in_row 5 s tt w.in-5.is w.row-is | in-6 w ↦ in_row 6 s tt w.in-6.is w.row-is | in_default w ↦ in_row 7 s tt (omega arith) w.row-is ] in
     sym (ap named c.in-1-2.is) ∙ told
 
 pub returns-in-2-2 : goal.returns-in-2-2
@@ -50,7 +49,7 @@ unfolding stands
 returns-in-2-2 c =
     let s = c.args.s in
     let told : says c.match-s-div32.row s ≡ class_of s =
-      elim c.match-s-div32.branch [ in-0 w ↦ in_row 0 s tt w.in-0.is w.row-is | in-1 w ↦ in_row 1 s tt w.in-1.is w.row-is | in-2 w ↦ in_row 2 s tt w.in-2.is w.row-is | in-3 w ↦ in_row 3 s tt w.in-3.is w.row-is | in-4 w ↦ in_row 4 s tt w.in-4.is w.row-is | in-5 w ↦ in_row 5 s tt w.in-5.is w.row-is | in-6 w ↦ in_row 6 s tt w.in-6.is w.row-is | in_default w ↦ in_row 7 s tt (omega arith) w.row-is ] in
+    elim c.match-s-div32.branch [ in-0 w ↦ in_row 0 s tt w.in-0.is w.row-is | in-1 w ↦ in_row 1 s tt w.in-1.is w.row-is | in-2 w ↦ in_row 2 s tt w.in-2.is w.row-is | in-3 w ↦ in_row 3 s tt w.in-3.is w.row-is | in-4 w ↦ in_row 4 s tt w.in-4.is w.row-is | in-5 w ↦ in_row 5 s tt w.in-5.is w.row-is | in-6 w ↦ in_row 6 s tt w.in-6.is w.row-is | in_default w ↦ in_row 7 s tt (omega arith) w.row-is ] in
     sym (ap named c.in-2-2.is) ∙ told
 
 pub returns-in_default-2 : goal.returns-in_default-2
@@ -58,5 +57,5 @@ unfolding stands
 returns-in_default-2 c =
     let s = c.args.s in
     let told : says c.match-s-div32.row s ≡ class_of s =
-      elim c.match-s-div32.branch [ in-0 w ↦ in_row 0 s tt w.in-0.is w.row-is | in-1 w ↦ in_row 1 s tt w.in-1.is w.row-is | in-2 w ↦ in_row 2 s tt w.in-2.is w.row-is | in-3 w ↦ in_row 3 s tt w.in-3.is w.row-is | in-4 w ↦ in_row 4 s tt w.in-4.is w.row-is | in-5 w ↦ in_row 5 s tt w.in-5.is w.row-is | in-6 w ↦ in_row 6 s tt w.in-6.is w.row-is | in_default w ↦ in_row 7 s tt (omega arith) w.row-is ] in
+    elim c.match-s-div32.branch [ in-0 w ↦ in_row 0 s tt w.in-0.is w.row-is | in-1 w ↦ in_row 1 s tt w.in-1.is w.row-is | in-2 w ↦ in_row 2 s tt w.in-2.is w.row-is | in-3 w ↦ in_row 3 s tt w.in-3.is w.row-is | in-4 w ↦ in_row 4 s tt w.in-4.is w.row-is | in-5 w ↦ in_row 5 s tt w.in-5.is w.row-is | in-6 w ↦ in_row 6 s tt w.in-6.is w.row-is | in_default w ↦ in_row 7 s tt (omega arith) w.row-is ] in
     sym (named_last (c.match-s-div32.row / 2 ^ (2 * (s % 32)) % 4) (λ q. omega arith) (λ q. omega arith) (λ q. omega arith)) ∙ told
