@@ -3,7 +3,7 @@
 
 # Proves and builds the library, and runs the driver on it.
 run:
-	rt staticlib chirpsteeple
+	.ci/archive chirpsteeple_c
 	mkdir -p target/c
 	.ci/x86-64 gcc -std=c11 -O2 -Iinclude examples/driver.c target/staticlib/libchirpsteeple.a -o target/c/driver
 	.ci/x86-64 target/c/driver
@@ -14,7 +14,6 @@ test:
 
 # Proves and builds the programs, and runs them.
 programs:
-	rt check named_numbers word_vectors scenario
-	.ci/program named_numbers
-	.ci/program word_vectors < crates/word_vectors/stdin
-	.ci/program scenario < crates/scenario/stdin
+	cd crates/named_numbers && rt run
+	cd crates/word_vectors && rt run < stdin
+	cd crates/scenario && rt run < stdin

@@ -5,7 +5,7 @@ use std::path::Path;
 fn main() {
     let made = concat!(env!("CARGO_MANIFEST_DIR"), "/../target/staticlib/libmeasured.a");
     let archive = std::env::var("CHIRPSTEEPLE_MEASURED").unwrap_or_else(|_| made.into());
-    assert!(Path::new(&archive).exists(), "{archive}: no such file; `rt staticlib measured` makes the archive");
+    assert!(Path::new(&archive).exists(), "{archive}: no such file; `.ci/archive measured` makes the archive");
     println!("cargo:rustc-link-arg={archive}");
     println!("cargo:rerun-if-env-changed=CHIRPSTEEPLE_MEASURED");
     println!("cargo:rerun-if-changed={archive}");

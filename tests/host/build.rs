@@ -9,7 +9,7 @@ fn main() {
     let out = PathBuf::from(env::var_os("OUT_DIR").unwrap());
     // A copy, since a linker finds libraries by their names, and the archive may have another.
     if let Err(e) = std::fs::copy(&archive, out.join("libchirpsteeple.a")) {
-        panic!("{}: {e}; `rt staticlib chirpsteeple` makes the archive", archive.display());
+        panic!("{}: {e}; `.ci/archive chirpsteeple_c` makes the archive", archive.display());
     }
     println!("cargo:rustc-link-search=native={}", out.display());
     println!("cargo:rustc-link-lib=static=chirpsteeple");

@@ -1,4 +1,5 @@
-// The eighteen functions that C, Rust and Python call, on numbers and byte slices. No caller is asked to have checked anything.
+// The eighteen functions that C, Rust and Python call, on numbers and byte slices. No caller is asked to have checked anything. `chirpsteeple_c` gives them to C
+// under the same names.
 
 #![tactic(auto)]
 ghost use Rattle.std.specs.Prelude.{◌≡◌};
@@ -50,8 +51,7 @@ pub struct ChirpListAnswer {
 
 // ---- New, and the guest and memory calls
 
-#[unsafe(no_mangle)]
-pub extern "C" fn chirp_new(session: &mut [u8], table: &mut [u8], streams: u64) -> u64
+pub fn chirp_new(session: &mut [u8], table: &mut [u8], streams: u64) -> u64
     ensures value { result ≡ (new_left session.old table.old streams).answer.code }
     ensures session_after { session.new ≡ (new_left session.old table.old streams).session }
     ensures table_after { table.new ≡ (new_left session.old table.old streams).table }
@@ -59,8 +59,7 @@ pub extern "C" fn chirp_new(session: &mut [u8], table: &mut [u8], streams: u64) 
     sweeps::new(session, table, streams)
 }
 
-#[unsafe(no_mangle)]
-pub extern "C" fn chirp_write(session: &[u8], table: &mut [u8], page: u64, mark: u64) -> u64
+pub fn chirp_write(session: &[u8], table: &mut [u8], page: u64, mark: u64) -> u64
     ensures value { result ≡ (write_left session.now table.old page mark).answer.code }
     ensures session_value { session.now ≡ (write_left session.now table.old page mark).session }
     ensures table_after { table.new ≡ (write_left session.now table.old page mark).table }
@@ -68,8 +67,7 @@ pub extern "C" fn chirp_write(session: &[u8], table: &mut [u8], page: u64, mark:
     pages::on_page(Move::Write { mark }, session, table, page)
 }
 
-#[unsafe(no_mangle)]
-pub extern "C" fn chirp_add(session: &[u8], table: &mut [u8], page: u64) -> u64
+pub fn chirp_add(session: &[u8], table: &mut [u8], page: u64) -> u64
     ensures value { result ≡ (add_left session.now table.old page).answer.code }
     ensures session_value { session.now ≡ (add_left session.now table.old page).session }
     ensures table_after { table.new ≡ (add_left session.now table.old page).table }
@@ -77,8 +75,7 @@ pub extern "C" fn chirp_add(session: &[u8], table: &mut [u8], page: u64) -> u64
     pages::on_page(Move::Add, session, table, page)
 }
 
-#[unsafe(no_mangle)]
-pub extern "C" fn chirp_accept(session: &[u8], table: &mut [u8], page: u64) -> u64
+pub fn chirp_accept(session: &[u8], table: &mut [u8], page: u64) -> u64
     ensures value { result ≡ (accept_left session.now table.old page).answer.code }
     ensures session_value { session.now ≡ (accept_left session.now table.old page).session }
     ensures table_after { table.new ≡ (accept_left session.now table.old page).table }
@@ -86,8 +83,7 @@ pub extern "C" fn chirp_accept(session: &[u8], table: &mut [u8], page: u64) -> u
     pages::on_page(Move::Accept, session, table, page)
 }
 
-#[unsafe(no_mangle)]
-pub extern "C" fn chirp_block(session: &[u8], table: &mut [u8], page: u64) -> u64
+pub fn chirp_block(session: &[u8], table: &mut [u8], page: u64) -> u64
     ensures value { result ≡ (block_left session.now table.old page).answer.code }
     ensures session_value { session.now ≡ (block_left session.now table.old page).session }
     ensures table_after { table.new ≡ (block_left session.now table.old page).table }
@@ -95,8 +91,7 @@ pub extern "C" fn chirp_block(session: &[u8], table: &mut [u8], page: u64) -> u6
     pages::on_page(Move::Block, session, table, page)
 }
 
-#[unsafe(no_mangle)]
-pub extern "C" fn chirp_unblock(session: &[u8], table: &mut [u8], page: u64) -> u64
+pub fn chirp_unblock(session: &[u8], table: &mut [u8], page: u64) -> u64
     ensures value { result ≡ (unblock_left session.now table.old page).answer.code }
     ensures session_value { session.now ≡ (unblock_left session.now table.old page).session }
     ensures table_after { table.new ≡ (unblock_left session.now table.old page).table }
@@ -104,8 +99,7 @@ pub extern "C" fn chirp_unblock(session: &[u8], table: &mut [u8], page: u64) -> 
     pages::on_page(Move::Unblock, session, table, page)
 }
 
-#[unsafe(no_mangle)]
-pub extern "C" fn chirp_remove(session: &[u8], table: &mut [u8], page: u64) -> u64
+pub fn chirp_remove(session: &[u8], table: &mut [u8], page: u64) -> u64
     ensures value { result ≡ (remove_left session.now table.old page).answer.code }
     ensures session_value { session.now ≡ (remove_left session.now table.old page).session }
     ensures table_after { table.new ≡ (remove_left session.now table.old page).table }
@@ -113,8 +107,7 @@ pub extern "C" fn chirp_remove(session: &[u8], table: &mut [u8], page: u64) -> u
     pages::on_page(Move::Remove, session, table, page)
 }
 
-#[unsafe(no_mangle)]
-pub extern "C" fn chirp_track(session: &mut [u8], table: &mut [u8]) -> u64
+pub fn chirp_track(session: &mut [u8], table: &mut [u8]) -> u64
     ensures value { result ≡ (track_left session.old table.old).answer.code }
     ensures session_after { session.new ≡ (track_left session.old table.old).session }
     ensures table_after { table.new ≡ (track_left session.old table.old).table }
@@ -124,8 +117,7 @@ pub extern "C" fn chirp_track(session: &mut [u8], table: &mut [u8]) -> u64
 
 // ---- the session calls
 
-#[unsafe(no_mangle)]
-pub extern "C" fn chirp_start(session: &mut [u8], table: &mut [u8]) -> u64
+pub fn chirp_start(session: &mut [u8], table: &mut [u8]) -> u64
     ensures value { result ≡ (start_left session.old table.old).answer.code }
     ensures session_after { session.new ≡ (start_left session.old table.old).session }
     ensures table_after { table.new ≡ (start_left session.old table.old).table }
@@ -133,8 +125,7 @@ pub extern "C" fn chirp_start(session: &mut [u8], table: &mut [u8]) -> u64
     sweeps::on_all(Sweep::Start, session, table)
 }
 
-#[unsafe(no_mangle)]
-pub extern "C" fn chirp_pause(session: &mut [u8], table: &mut [u8]) -> u64
+pub fn chirp_pause(session: &mut [u8], table: &mut [u8]) -> u64
     ensures value { result ≡ (pause_left session.old table.old).answer.code }
     ensures session_after { session.new ≡ (pause_left session.old table.old).session }
     ensures table_after { table.new ≡ (pause_left session.old table.old).table }
@@ -142,8 +133,7 @@ pub extern "C" fn chirp_pause(session: &mut [u8], table: &mut [u8]) -> u64
     sweeps::on_all(Sweep::Pause, session, table)
 }
 
-#[unsafe(no_mangle)]
-pub extern "C" fn chirp_new_epoch(session: &mut [u8], table: &[u8]) -> u64
+pub fn chirp_new_epoch(session: &mut [u8], table: &[u8]) -> u64
     ensures value { result ≡ (new_epoch_left session.old table.now).answer.code }
     ensures session_after { session.new ≡ (new_epoch_left session.old table.now).session }
     ensures table_value { table.now ≡ (new_epoch_left session.old table.now).table }
@@ -151,8 +141,7 @@ pub extern "C" fn chirp_new_epoch(session: &mut [u8], table: &[u8]) -> u64
     tables::on_session(Alone::NewEpoch, session, table)
 }
 
-#[unsafe(no_mangle)]
-pub extern "C" fn chirp_reset(session: &mut [u8], table: &[u8]) -> u64
+pub fn chirp_reset(session: &mut [u8], table: &[u8]) -> u64
     ensures value { result ≡ (reset_left session.old table.now).answer.code }
     ensures session_after { session.new ≡ (reset_left session.old table.now).session }
     ensures table_value { table.now ≡ (reset_left session.old table.now).table }
@@ -160,8 +149,7 @@ pub extern "C" fn chirp_reset(session: &mut [u8], table: &[u8]) -> u64
     tables::on_session(Alone::Reset, session, table)
 }
 
-#[unsafe(no_mangle)]
-pub extern "C" fn chirp_abort(session: &mut [u8], table: &[u8]) -> u64
+pub fn chirp_abort(session: &mut [u8], table: &[u8]) -> u64
     ensures value { result ≡ (abort_left session.old table.now).answer.code }
     ensures session_after { session.new ≡ (abort_left session.old table.now).session }
     ensures table_value { table.now ≡ (abort_left session.old table.now).table }
@@ -169,8 +157,7 @@ pub extern "C" fn chirp_abort(session: &mut [u8], table: &[u8]) -> u64
     tables::on_session(Alone::Abort, session, table)
 }
 
-#[unsafe(no_mangle)]
-pub extern "C" fn chirp_start_token(session: &mut [u8], table: &[u8]) -> ChirpTokenAnswer
+pub fn chirp_start_token(session: &mut [u8], table: &[u8]) -> ChirpTokenAnswer
     ensures value { result ≡ token_to_c (token_left session.old table.now).answer }
     ensures session_after { session.new ≡ (token_left session.old table.now).session }
     ensures table_value { table.now ≡ (token_left session.old table.now).table }
@@ -195,8 +182,7 @@ fn scan_answer(n: Numbers) -> ChirpScanAnswer
     }
 }
 
-#[unsafe(no_mangle)]
-pub extern "C" fn chirp_dscan(
+pub fn chirp_dscan(
     session: &[u8],
     table: &mut [u8],
     first: u64,
@@ -219,8 +205,7 @@ pub extern "C" fn chirp_dscan(
     ))
 }
 
-#[unsafe(no_mangle)]
-pub extern "C" fn chirp_dcheck(
+pub fn chirp_dcheck(
     session: &mut [u8],
     table: &mut [u8],
     list: &mut [u8],
@@ -234,8 +219,7 @@ pub extern "C" fn chirp_dcheck(
     scan_answer(scans::dcheck(session, table, list, budget as usize))
 }
 
-#[unsafe(no_mangle)]
-pub extern "C" fn chirp_export(
+pub fn chirp_export(
     session: &mut [u8],
     table: &mut [u8],
     list: &mut [u8],
@@ -265,8 +249,7 @@ pub extern "C" fn chirp_export(
     }
 }
 
-#[unsafe(no_mangle)]
-pub extern "C" fn chirp_restore(
+pub fn chirp_restore(
     session: &[u8],
     table: &mut [u8],
     list: &mut [u8],

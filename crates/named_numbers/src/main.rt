@@ -4,7 +4,7 @@
 ghost use Rattle.std.specs.Prelude.{◌≡◌};
 ghost use Rattle.named_numbers.specs.Named.{code_numbers, state_numbers, status_numbers, operation_numbers, hint_numbers, restore_numbers};
 
-use libc::STDOUT_FILENO;
+use std::io::{self, BufWriter, Write};
 use words::{codes, hints, operations, states, statuses};
 
 fn code_numbers() -> [u64; 21]
@@ -121,34 +121,36 @@ fn restore_numbers() -> [u64; 2]
     [operations::NOP, operations::RESTORE]
 }
 
-fn text(s: &[u8]) {
-    io::write_all(STDOUT_FILENO, s);
+fn text(out: &mut impl Write, s: &[u8]) -> io::Result<()> {
+    out.write_all(s)
 }
 
-fn decimal(n: u64) {
-    text(b" ");
-    io::print_decimal(STDOUT_FILENO, n);
+fn decimal(out: &mut impl Write, n: u64) -> io::Result<()> {
+    text(out, b" ")?;
+    write!(out, "{n}")
 }
 
-fn end() {
-    text(b"\n");
+fn end(out: &mut impl Write) -> io::Result<()> {
+    text(out, b"\n")
 }
 
-fn list(name: &[u8], ns: &[u64]) {
-    text(name);
+fn list(out: &mut impl Write, name: &[u8], ns: &[u64]) -> io::Result<()> {
+    text(out, name)?;
     let mut i = 0;
     while i < ns.len() {
-        decimal(ns[i]);
+        decimal(out, ns[i])?;
         i += 1;
     }
-    end();
+    end(out)
 }
 
-fn main() {
-    list(b"codes", &code_numbers());
-    list(b"states", &state_numbers());
-    list(b"statuses", &status_numbers());
-    list(b"operations", &operation_numbers());
-    list(b"hints", &hint_numbers());
-    list(b"restores", &restore_numbers());
+fn main(rt: HostRuntime) -> io::Result<()> {
+    let mut out = BufWriter::new(rt.alloc(), io::writer(&rt))?;
+    list(&mut out, b"codes", &code_numbers())?;
+    list(&mut out, b"states", &state_numbers())?;
+    list(&mut out, b"statuses", &status_numbers())?;
+    list(&mut out, b"operations", &operation_numbers())?;
+    list(&mut out, b"hints", &hint_numbers())?;
+    list(&mut out, b"restores", &restore_numbers())?;
+    out.flush()
 }

@@ -7,6 +7,7 @@ use crate::orders::Order;
 use crate::{hand, names, orders, show};
 use calls::Call;
 use session::Session;
+use std::io::{self, Write};
 
 // The smaller of two numbers.
 fn least(a: usize, b: usize) -> usize
@@ -17,13 +18,14 @@ fn least(a: usize, b: usize) -> usize
 
 // Makes a call on the words that are lent, prints what it leaves, and gives the session back.
 fn make(
+    out: &mut impl Write,
     call: Call,
     s: Session,
     lent: Lent,
     table: &mut [u64],
     list: &mut [u64],
     buffer: &mut [u64],
-) -> Session {
+) -> io::Result<Session> {
     let words = least(lent.table, table.len());
     let entries = least(lent.list, list.len());
     let contents = least(lent.buffer, buffer.len());
@@ -34,8 +36,8 @@ fn make(
         &mut list[..entries],
         &mut buffer[..contents],
     );
-    show::returned(returned, &table[..], &list[..], &buffer[..]);
-    returned.session
+    show::returned(out, returned, &table[..], &list[..], &buffer[..])?;
+    Ok(returned.session)
 }
 
 // Puts a word into a space; what would lie behind its end goes nowhere.
@@ -46,7 +48,13 @@ fn put(space: &mut [u64], at: usize, word: u64) {
 }
 
 // What a line asks for that leaves the session alone: a word put or words shown, or nothing, or nothing that can be read.
-fn pass(l: Line, table: &mut [u64], list: &mut [u64], buffer: &mut [u64]) {
+fn pass(
+    out: &mut impl Write,
+    l: Line,
+    table: &mut [u64],
+    list: &mut [u64],
+    buffer: &mut [u64],
+) -> io::Result<()> {
     let name = l.name;
     let at = l.first as usize;
     let second = l.second;
@@ -55,28 +63,30 @@ fn pass(l: Line, table: &mut [u64], list: &mut [u64], buffer: &mut [u64]) {
         names::WORD => put(table, at, second),
         names::ENTRY => put(list, at, second),
         names::CONTENT => put(buffer, at, second),
-        names::SHOW => show::words(&table[..], at, second as usize),
-        names::LISTED => show::words(&list[..], at, second as usize),
-        names::SENT => show::words(&buffer[..], at, second as usize),
-        _ => show::text(b"unreadable\n"),
+        names::SHOW => return show::words(out, &table[..], at, second as usize),
+        names::LISTED => return show::words(out, &list[..], at, second as usize),
+        names::SENT => return show::words(out, &buffer[..], at, second as usize),
+        _ => return show::text(out, b"unreadable\n"),
     }
+    Ok(())
 }
 
 // Does what a line asks for, and gives the session back.
 pub(crate) fn obey(
+    out: &mut impl Write,
     s: Session,
     l: Line,
     lent: Lent,
     table: &mut [u64],
     list: &mut [u64],
     buffer: &mut [u64],
-) -> Session {
+) -> io::Result<Session> {
     match orders::order_of(l) {
-        Order::Call(call) => make(call, s, lent, table, list, buffer),
-        Order::Change => hand::changed(s, l),
+        Order::Call(call) => make(out, call, s, lent, table, list, buffer),
+        Order::Change => Ok(hand::changed(s, l)),
         Order::Other => {
-            pass(l, table, list, buffer);
-            s
+            pass(out, l, table, list, buffer)?;
+            Ok(s)
         }
     }
 }

@@ -1,5 +1,6 @@
 // Standard input, a line at a time: a word in hexadecimal digits, or two, the second to take fields from.
 use crate::{print, shown};
+use std::io::{self, Write};
 
 // What has been read of a line.
 #[derive(Clone, Copy)]
@@ -71,44 +72,44 @@ fn with_digit(l: Line, d: u64) -> Line {
 }
 
 // The end of a line.
-pub(crate) fn finish(l: Line) {
+pub(crate) fn finish(out: &mut impl Write, l: Line) -> io::Result<()> {
     if l.broken {
-        print::text(b"unreadable\n");
-        return;
+        return print::text(out, b"unreadable\n");
     }
     if 0 < l.count {
-        shown::apart(l.first);
+        shown::apart(out, l.first)?;
     }
     if 1 < l.count {
-        shown::each_from(l.first, l.second);
+        shown::each_from(out, l.first, l.second)?;
     }
+    Ok(())
 }
 
-fn with_byte(l: Line, b: u8) -> Line {
+fn with_byte(out: &mut impl Write, l: Line, b: u8) -> io::Result<Line> {
     let d = digit(b);
     if d < 16 {
-        return with_digit(l, d);
+        return Ok(with_digit(l, d));
     }
     match b {
         b'\n' => {
-            finish(l);
-            empty()
+            finish(out, l)?;
+            Ok(empty())
         }
         b' ' | b'\t' | b'\r' => {
             let mut next = l;
             next.within = false;
-            next
+            Ok(next)
         }
-        _ => broken(l),
+        _ => Ok(broken(l)),
     }
 }
 
-pub(crate) fn read(l: Line, s: &[u8]) -> Line {
+pub(crate) fn read(out: &mut impl Write, l: Line, s: &[u8]) -> io::Result<Line> {
     let mut line = l;
     let mut i = 0;
     while i < s.len() {
-        line = with_byte(line, s[i]);
+        line = with_byte(out, line, s[i])?;
         i += 1;
     }
-    line
+    Ok(line)
 }

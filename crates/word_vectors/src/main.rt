@@ -6,20 +6,26 @@ mod lines;
 mod print;
 mod shown;
 
-use libc::STDIN_FILENO;
+use std::io::{self, BufWriter, Read, Write};
 
-fn main() {
-    built::print_all();
+// How many bytes are read at a time.
+const PIECE: usize = 65536;
+
+fn main(rt: HostRuntime) -> io::Result<()> {
+    let mut out = BufWriter::new(rt.alloc(), io::writer(&rt))?;
+    built::print_all(&mut out)?;
     let mut line = lines::empty();
-    let mut space = io::large_buffer();
-    let buffer: &mut [u8] = &mut space;
+    let mut input = rt.reader();
+    let mut piece = Vec::with_capacity(rt.alloc(), PIECE)?;
     // At most 4 GiB, so that the program ends.
     for _ in 0u64..65536 {
-        let n = io::read_full(STDIN_FILENO, buffer);
+        let n = input.by_ref().take(PIECE as u64).read_to_end(&mut piece)?;
         if n == 0 {
             break;
         }
-        line = lines::read(line, &buffer[..n]);
+        line = lines::read(&mut out, line, piece.as_slice())?;
+        piece.clear();
     }
-    lines::finish(line);
+    lines::finish(&mut out, line)?;
+    out.flush()
 }

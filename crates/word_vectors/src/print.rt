@@ -1,30 +1,30 @@
 // What the other modules print with.
-use libc::STDOUT_FILENO;
+use std::io::{self, Write};
 
-pub(crate) fn text(s: &[u8]) {
-    io::write_all(STDOUT_FILENO, s);
+pub(crate) fn text(out: &mut impl Write, s: &[u8]) -> io::Result<()> {
+    out.write_all(s)
 }
 
-pub(crate) fn end() {
-    text(b"\n");
+pub(crate) fn end(out: &mut impl Write) -> io::Result<()> {
+    text(out, b"\n")
 }
 
 // A name and a number.
-pub(crate) fn number(name: &[u8], n: u64) {
-    text(b" ");
-    text(name);
-    text(b" ");
-    io::print_decimal(STDOUT_FILENO, n);
+pub(crate) fn number(out: &mut impl Write, name: &[u8], n: u64) -> io::Result<()> {
+    text(out, b" ")?;
+    text(out, name)?;
+    text(out, b" ")?;
+    write!(out, "{n}")
 }
 
-pub(crate) fn flag(name: &[u8], b: bool) {
-    number(name, b as u64);
+pub(crate) fn flag(out: &mut impl Write, name: &[u8], b: bool) -> io::Result<()> {
+    number(out, name, b as u64)
 }
 
 // A name and a word.
-pub(crate) fn word(name: &[u8], w: u64) {
-    text(b" ");
-    text(name);
-    text(b" ");
-    io::print_hex(STDOUT_FILENO, w, 16);
+pub(crate) fn word(out: &mut impl Write, name: &[u8], w: u64) -> io::Result<()> {
+    text(out, b" ")?;
+    text(out, name)?;
+    text(out, b" ")?;
+    write!(out, "{w:016x}")
 }

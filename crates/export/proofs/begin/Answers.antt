@@ -1,0 +1,9 @@
+-- Each arm is a clause of the definition.
+use borrow.Author.Rules.{rules}
+use Rattle.export.proofs.begin.Goals as goal
+
+pub returns-in-AtRest : goal.returns-in-AtRest
+returns-in-AtRest c = rw c.in-AtRest.is
+
+pub returns-in-Interrupted : goal.returns-in-Interrupted
+returns-in-Interrupted c = rw c.in-Interrupted.is

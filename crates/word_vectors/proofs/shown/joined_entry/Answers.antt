@@ -1,0 +1,9 @@
+-- What was read is written: the law of `words`.
+use mathlib.Core.Path.{ap, ◌∙◌}
+use borrow.Author.Rules.{rules}
+use Rattle.words.specs.Entry.{entry_word}
+use Rattle.words.proofs.EntryLaws.{word-entry}
+use Rattle.word_vectors.proofs.shown.joined_entry.Goals as goal
+
+pub returns : goal.returns
+returns c = c.entry_word.ensures ∙ ap entry_word c.entry_of.ensures.value ∙ word-entry c.args.w c.ranges.w.fits

@@ -1,0 +1,9 @@
+-- What was read is written: the law of `words`.
+use mathlib.Core.Path.{ap, ◌∙◌}
+use borrow.Author.Rules.{rules}
+use Rattle.words.specs.Info.{info_word}
+use Rattle.words.proofs.InfoLaws.{word-info}
+use Rattle.word_vectors.proofs.shown.joined_info.Goals as goal
+
+pub returns : goal.returns
+returns c = c.info_word.ensures ∙ ap info_word c.info_of.ensures.value ∙ word-info c.args.w c.ranges.w.fits

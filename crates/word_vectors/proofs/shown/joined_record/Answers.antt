@@ -1,0 +1,9 @@
+-- What was read is written: the law of `records`.
+use mathlib.Core.Path.{ap, ◌∙◌}
+use borrow.Author.Rules.{rules}
+use Rattle.records.specs.Record.{record_word}
+use Rattle.records.proofs.RecordLaws.{word-record}
+use Rattle.word_vectors.proofs.shown.joined_record.Goals as goal
+
+pub returns : goal.returns
+returns c = c.record_word.ensures ∙ ap record_word c.record_of.ensures.value ∙ word-record c.args.w c.ranges.w.fits
