@@ -1,6 +1,7 @@
 // Export of a list: on a stream that remembers where it was interrupted, with its counts.
 
 #![tactic(auto)]
+
 ghost use Rattle.std.specs.Prelude.{◌≡◌, ◌+◌, ◌≤◌};
 ghost use Rattle.session.specs.Formed.{behind, last_entry};
 ghost use Rattle.export.specs.Export.{resumable, export_asks, begun_by, mac_pages, ended_by, export_out};

@@ -2,5 +2,6 @@
 // lie; and the bytes that a run leaves are those of what the engine's run leaves on the words that they are.
 
 #![tactic(auto)]
+
 pub mod runs;
 pub mod scans;

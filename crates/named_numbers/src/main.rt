@@ -1,6 +1,7 @@
 // Prints the named numbers of `words`, each list in its order. That the code and specs/ give each name the same number is proved on the way.
 
 #![tactic(auto)]
+
 ghost use Rattle.std.specs.Prelude.{◌≡◌};
 ghost use Rattle.named_numbers.specs.Named.{code_numbers, state_numbers, status_numbers, operation_numbers, hint_numbers, restore_numbers};
 

@@ -1,6 +1,7 @@
 // RESTORE of a list: pages that a migration left go back to the states outside one.
 
 #![tactic(auto)]
+
 ghost use Rattle.std.specs.Prelude.{◌≡◌};
 ghost use Rattle.session.specs.Formed.{behind};
 ghost use Rattle.restore.specs.Restore.{restore_asks, begun_at, ended_at, RestoreOutcome, restore_out};

@@ -40,8 +40,19 @@ fn failed(out: &mut impl Write, name: &[u8], w: u64, status: u64) -> io::Result<
     line(out, name, w, answered(w, operations::NOP, false, status))
 }
 
-fn done(out: &mut impl Write, name: &[u8], w: u64, operation: u64, pending: bool) -> io::Result<()> {
-    line(out, name, w, answered(w, operation, pending, statuses::SUCCESS))
+fn done(
+    out: &mut impl Write,
+    name: &[u8],
+    w: u64,
+    operation: u64,
+    pending: bool,
+) -> io::Result<()> {
+    line(
+        out,
+        name,
+        w,
+        answered(w, operation, pending, statuses::SUCCESS),
+    )
 }
 
 fn print_marked(out: &mut impl Write) -> io::Result<()> {
@@ -62,7 +73,12 @@ fn print_marked(out: &mut impl Write) -> io::Result<()> {
         asking(20480, operations::MIGRATE),
         statuses::SEPT_WALK_FAILED,
     )?;
-    failed(out, b"marked 10", asking(5, operations::NOP), statuses::SKIPPED)
+    failed(
+        out,
+        b"marked 10",
+        asking(5, operations::NOP),
+        statuses::SKIPPED,
+    )
 }
 
 // What a scan lists for a page that is in EXPORTED with Dirty.
@@ -86,7 +102,13 @@ fn info(out: &mut impl Write, name: &[u8], first: u64, last: u64) -> io::Result<
     print::end(out)
 }
 
-fn record(out: &mut impl Write, name: &[u8], state: u8, stamp: u64, migrated: u64) -> io::Result<()> {
+fn record(
+    out: &mut impl Write,
+    name: &[u8],
+    state: u8,
+    stamp: u64,
+    migrated: u64,
+) -> io::Result<()> {
     let w = records::set_migrated(
         records::set_stamp(records::set_state(0, state), stamp),
         migrated,

@@ -1,6 +1,7 @@
 // Prints words of document 01, built from their fields, and then every word of standard input, taken apart.
 
 #![tactic(auto)]
+
 mod built;
 mod lines;
 mod print;

@@ -1,5 +1,4 @@
 -- Each arm is a clause of the definition.
-use borrow.Author.Rules.{rules}
 use Rattle.export.proofs.begin.Goals as goal
 
 pub returns-in-AtRest : goal.returns-in-AtRest

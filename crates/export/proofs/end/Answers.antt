@@ -1,5 +1,4 @@
 -- Each way is the definition at the test of the last entry.
-use borrow.Author.Rules.{rules}
 use mathlib.Core.Path.{sym, ◌∙◌}
 use native.Mathlib.Omega.{arith}
 use Rattle.export.specs.Export.{ended_by}

@@ -1,5 +1,4 @@
 -- Each way is the definition at the test of the last entry.
-use borrow.Author.Rules.{rules}
 use mathlib.Core.Path.{sym, ◌∙◌}
 use Rattle.restore.specs.Restore.{ended_at}
 use Rattle.restore.proofs.end.Goals as goal

@@ -32,14 +32,14 @@ returns-then-gate-ne-DONE c = rw (ne_eqb _ _ c.if-gate-ne-DONE.true)
 pub returns-then-no_list : goal.returns-then-no_list
 returns-then-no_list c =
     sym (past-gate c.args.gate c.args.entries c.args.x c.list_code-listed.result c.if-gate-ne-DONE.false c.list_code-listed.ensures
-    ∙ reached (tests c.args.x c.list_code-listed.result) 0 c.if-no_list.true)
+    ∙ reached (tests c.args.x c.list_code-listed.result) 0 (ap not (ne_eqb _ _ c.if-no_list.true)))
 
 pub returns-then-first_beyond : goal.returns-then-first_beyond
 returns-then-first_beyond c =
     sym (past-gate c.args.gate c.args.entries c.args.x c.list_code-listed.result c.if-gate-ne-DONE.false c.list_code-listed.ensures
-    ∙ reached (tests c.args.x c.list_code-listed.result) 1 (c.if-no_list.false, c.if-first_beyond.true))
+    ∙ reached (tests c.args.x c.list_code-listed.result) 1 (ap not (eq-eqb _ _ c.if-no_list.false), lt-ltb _ _ c.if-first_beyond.true))
 
 pub returns : goal.returns
 returns c =
     sym (past-gate c.args.gate c.args.entries c.args.x c.list_code-listed.result c.if-gate-ne-DONE.false c.list_code-listed.ensures
-    ∙ passed-code (tests c.args.x c.list_code-listed.result) (c.if-no_list.false, (c.if-first_beyond.false, tt)))
+    ∙ passed-code (tests c.args.x c.list_code-listed.result) (ap not (eq-eqb _ _ c.if-no_list.false), (le-ltb _ _ c.if-first_beyond.false, tt)))

@@ -1,5 +1,4 @@
 -- Word i of the bytes is at 8 * i, and past the end there is 0.
-use borrow.Author.Rules.{rules}
 use mathlib.Core.Path.{sym, ◌∙◌}
 use lib.ListN.{get_or-eq_default}
 use Rattle.wire.specs.Bytes.{words_of}

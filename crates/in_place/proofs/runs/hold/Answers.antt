@@ -8,7 +8,7 @@ use Rattle.in_place.proofs.runs.hold.Goals as goal
 
 pub returns-then-i-buffer : goal.returns-then-i-buffer
 returns-then-i-buffer c = ap words_of c.put_word.ensures
-    ∙ words-put-word c.args.buffer.now _ _ (λ i. (c.slice_known-1.given i).fits) c.requires c.if-i-buffer.true (search rules)
+    ∙ words-put-word c.args.buffer.now _ _ (search rules) c.requires c.if-i-buffer.true (search rules)
 
 pub returns-else-i-buffer : goal.returns-else-i-buffer
 returns-else-i-buffer c = let b = c.args.buffer.now in sym (set_out (words_of b) _ _ (rw (words-length b) c.if-i-buffer.false))

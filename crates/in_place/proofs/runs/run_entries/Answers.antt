@@ -1,15 +1,11 @@
 -- The rest of the run, on the words of the bytes as they stand, is the whole run; at its end the bytes are those of the words.
-use borrow.Author.Rules.{rules}
-use mathlib.Core.Path.{◌≡◌, refl, sym, ◌∙◌}
-use Prim.Native.Nat.{◌+◌, ◌-◌, ◌≤◌}
-use native.Mathlib.Omega.{arith}
+use mathlib.Core.Path.{refl, sym, ◌∙◌}
 use native.Mathlib.Nat.{sub-zero}
-use lib.ListN.{length}
 use Rattle.lists.specs.Kinds.{taken_by}
-use Rattle.lists.specs.Run.{standing, list_run}
-use Rattle.lists.proofs.Laws.{run-spent, run_end, run_step, Counts, counts_step, next-step}
+use Rattle.lists.specs.Run.{standing}
+use Rattle.lists.proofs.Laws.{run-spent, run_end, run_step, counts_step, next-step}
 use Rattle.wire.specs.Bytes.{words_of}
-use Rattle.in_place.proofs.Laws.{Whole, whole-as, run-written}
+use Rattle.in_place.proofs.Laws.{whole-as, run-written}
 use Rattle.in_place.proofs.runs.run_entries.Goals as goal
 
 pub loop-at-init : goal.loop-at-init
@@ -25,15 +21,6 @@ loop-at-init c = let pre = c.requires in (
   record { bytes = λ i. (c.type_inv.buffer i).fits; words = pre.table_len.2 },
 )
 
-pub shape_of-table-then-budget-spent : goal.shape_of-table-then-budget-spent
-shape_of-table-then-budget-spent c = c.loop-at.invariant.0
-
-pub shape_of-list-then-budget-spent : goal.shape_of-list-then-budget-spent
-shape_of-list-then-budget-spent c = c.loop-at.invariant.1
-
-pub shape_of-buffer-then-budget-spent : goal.shape_of-buffer-then-budget-spent
-shape_of-buffer-then-budget-spent c = c.loop-at.invariant.2
-
 pub returns-then-budget-spent : goal.returns-then-budget-spent
 returns-then-budget-spent c =
     let all = (let inv = c.loop-at.invariant in
@@ -43,19 +30,6 @@ returns-then-budget-spent c =
       table_after = all.1.0;
       list_after = all.1.1.0;
       buffer_after = all.1.1.1;
-    }
-
-pub step-at-requires : goal.step-at-requires
-step-at-requires c = let inv = c.loop-at.invariant in
-    let pre = c.requires in
-    record {
-      table_len = (inv.6.words, inv.7.words, inv.8.words);
-      next_in_bounds = (
-        omega (arith, c.loop-at-test.true, pre.last_in_bounds.0, inv.1),
-        omega (arith, c.loop-at-test.true, pre.last_in_bounds.1),
-        inv.4.errors,
-        inv.4.filled,
-      );
     }
 
 pub loop-at-preserved : goal.loop-at-preserved
@@ -76,15 +50,6 @@ loop-at-preserved c = let was = c.loop-at in
       whole-as _ _ kept.list was.invariant.7 (λ i. (c.type_inv.list i).fits),
       whole-as _ _ kept.buffer was.invariant.8 (λ i. (c.type_inv.buffer i).fits),
     )
-
-pub shape_of-table : goal.shape_of-table
-shape_of-table c = c.loop-at.invariant.0
-
-pub shape_of-list : goal.shape_of-list
-shape_of-list c = c.loop-at.invariant.1
-
-pub shape_of-buffer : goal.shape_of-buffer
-shape_of-buffer c = c.loop-at.invariant.2
 
 pub returns : goal.returns
 returns c =

@@ -2,7 +2,6 @@
 use borrow.Author.Rules.{rules}
 use mathlib.Core.Path.{◌≡◌, sym, ap, ◌∙◌}
 use Prim.Native.Nat.{ℕ}
-use native.Mathlib.Omega.{arith}
 use lib.ListN.{set}
 use Rattle.words.specs.Entry.{entry_of}
 use Rattle.words.specs.declared.entries.Entry.{Entry}
@@ -26,21 +25,6 @@ stepped_by f s word held k w got a b c d e =
     let takes : taking f s ≡ got = cc in
     rw (takes, named)
 
-pub count-next-requires : goal.count-next-requires
-count-next-requires c = (c.requires.next_in_bounds.1, c.requires.next_in_bounds.2, c.requires.next_in_bounds.3)
-
-pub replace-requires : goal.replace-requires
-replace-requires c = (c.requires.table_len.0, c.load-before.ensures)
-
-pub overflow_mul-i-2 : goal.overflow_mul-i-2
-overflow_mul-i-2 c = omega (arith, c.requires.next_in_bounds.1)
-
-pub put_word-requires : goal.put_word-requires
-put_word-requires c = omega (arith, c.requires.next_in_bounds.0)
-
-pub hold-requires : goal.hold-requires
-hold-requires c = c.requires.table_len.2
-
 pub returns : goal.returns
 returns c = let x = c.args in
     let t = x.table.now in
@@ -61,9 +45,9 @@ returns c = let x = c.args in
     record {
       value = c.count-next.ensures ∙ by.0;
       table_after = ap words_of c.replace.ensures
-          ∙ words-put t _ got.words (λ i. (c.slice_known-1.given i).fits) c.requires.table_len.0 page.0.1 page.1.0.1 ∙ by.1.0;
+          ∙ words-put t _ got.words (search rules) c.requires.table_len.0 page.0.1 page.1.0.1 ∙ by.1.0;
       list_after = ap words_of c.put_word.ensures
-          ∙ words-put-word l next got.word (λ i. (c.slice_known-2-1.given i).fits) c.requires.table_len.1 c.requires.next_in_bounds.0 small.1.0.1
+          ∙ words-put-word l next got.word (search rules) c.requires.table_len.1 c.requires.next_in_bounds.0 small.1.0.1
           ∙ by.1.1.0;
       buffer_after = c.hold.ensures ∙ by.1.1.1;
     }

@@ -1,12 +1,10 @@
 -- A page that is neither blocked nor listed stops no scan that has budget left; any other is asked, and visited where nothing stops it.
-use borrow.Author.Rules.{rules}
 use mathlib.Core.Path.{◌≡◌, refl, sym, ap, ◌∙◌}
 use mathlib.Core.Bool.{Bool, true, false, ◌||◌, and-false, true≢false}
 use mathlib.Core.List.{List}
 use Prim.Native.Nat.{ℕ, ◌<◌, ◌/◌}
 use lib.ListN.{length}
 use borrow.Author.Tests.{eq-eqb, ne_eqb, lt-leb}
-use Rattle.refusals.proofs.Laws.{not-true}
 use Rattle.page.specs.Page.{blocked, page_of}
 use Rattle.page.specs.declared.PageWords.{PageWords}
 use Rattle.table.specs.Table.{page_at, words_at}

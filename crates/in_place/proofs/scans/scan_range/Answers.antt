@@ -46,7 +46,7 @@ module _ (t : List ℕ) (count : ℕ) (scan : Scan) (whole : Whole t) where
 pub returns : goal.returns
 returns c = let a = c.args in
     let t = a.table.now in
-    let whole : Whole t = record { bytes = λ i. (c.slice_known-1.given i).fits; words = c.requires.table_len.0 } in
+    let whole : Whole t = record { bytes = search rules; words = c.requires.table_len.0 } in
     let k = back (16 * a.scan.first) (16 * a.count) in
     let ran = part-run t a.count a.scan whole (words_of a.list.now) c.requires.count_in_bounds.0 in
     let around : List ℕ → List ℕ = λ p. take (16 * a.scan.first) t ++ (p ++ drop (16 * a.count) (drop (16 * a.scan.first) t)) in

@@ -1,6 +1,5 @@
 -- What was read is written: the law of `words`.
 use mathlib.Core.Path.{ap, ◌∙◌}
-use borrow.Author.Rules.{rules}
 use Rattle.words.specs.Entry.{entry_word}
 use Rattle.words.proofs.EntryLaws.{word-entry}
 use Rattle.word_vectors.proofs.shown.joined_entry.Goals as goal

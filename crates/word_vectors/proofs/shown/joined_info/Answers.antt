@@ -1,6 +1,5 @@
 -- What was read is written: the law of `words`.
 use mathlib.Core.Path.{ap, ◌∙◌}
-use borrow.Author.Rules.{rules}
 use Rattle.words.specs.Info.{info_word}
 use Rattle.words.proofs.InfoLaws.{word-info}
 use Rattle.word_vectors.proofs.shown.joined_info.Goals as goal

@@ -1,6 +1,5 @@
 -- What was read is written: the law of `records`.
 use mathlib.Core.Path.{ap, ◌∙◌}
-use borrow.Author.Rules.{rules}
 use Rattle.records.specs.Record.{record_word}
 use Rattle.records.proofs.RecordLaws.{word-record}
 use Rattle.word_vectors.proofs.shown.joined_record.Goals as goal

@@ -1,0 +1,6 @@
+-- The definition, written out.
+use mathlib.Core.Path.{refl}
+use Rattle.calls.proofs.scan_numbers.Goals as goal
+
+pub returns : goal.returns
+returns c = refl
