@@ -8,11 +8,7 @@ use Rattle.calls.specs.declared.Call.TheVariants.{OnPage}
 use Rattle.host.specs.Host.{lent, host_of}
 use Rattle.host.proofs.LayoutLaws.{Sound, sound-means, host-refused}
 use Rattle.host.proofs.PageLaws.{turn_on, turn_left, one-page}
-use Rattle.host.proofs.pages.on_page.Statement.{statement}
-use Rattle.host.proofs.pages.on_page.Tie as tie
-
-is-sound-requires : tie.Need-is-sound-requires
-is-sound-requires c κs = search rules
+use Rattle.host.proofs.pages.on_page.Goals as goal
 
 -- past 40
 sounds : (c : tie.Then1) →
@@ -20,26 +16,14 @@ sounds : (c : tie.Then1) →
     Sound a.session.now (length a.table.now)
 sounds c = sound-means _ _ (sym c.before.is-sound.ensures ∙ c.if1.true)
 
-phase-at-requires : tie.Need-phase-at-requires
-phase-at-requires c κs = (sounds c).long
+pub phase_at-phase-requires : goal.phase_at-phase-requires
+phase_at-phase-requires c = (sounds c).long
 
-pages-at-requires : tie.Need-pages-at-requires
-pages-at-requires c κs = (sounds c.before).long
+pub pages_at-pages-requires : goal.pages_at-pages-requires
+pages_at-pages-requires c = (sounds c.before).long
 
-clock-at-requires : tie.Need-clock-at-requires
-clock-at-requires c κs = (sounds c.before.before).long
-
-load-requires : tie.Need-load-requires
-load-requires c κs = search rules
-
-on-words-requires : tie.Need-on-words-requires
-on-words-requires c κs = search rules
-
-store-requires : tie.Need-store-requires
-store-requires c κs = search rules
-
-same_length : tie.Need-same-length
-same_length c = search rules
+pub clock_at-clock-requires : goal.clock_at-clock-requires
+clock_at-clock-requires c = (sounds c.before.before).long
 
 -- what the contract says, by the turn that the code has
 turned : (c : tie.After-on-words) →
@@ -60,37 +44,31 @@ turned c =
     (λ i. omega (arith, at-known.before.shared-slice-known.given i))
     (λ i. omega (arith, at-known.slice-known.given i)) (sounds at-if1))
 
-returns : tie.Need-returns
+pub returns-then-turn-eq-DONE : goal.returns-then-turn-eq-DONE
+returns-then-turn-eq-DONE c =
+    let all = (rw (turned at-if2.before.before, eq-eqb _ _ c.if-turn-eq-DONE.true) (refl, (refl, c.store.ensures))) in
+    record {
+      value = all.0;
+      session_value = all.1.0;
+      table_after = all.1.1;
+    }
+
+pub returns-else-turn-eq-DONE : goal.returns-else-turn-eq-DONE
+returns-else-turn-eq-DONE c =
+    let all = (rw (turned c.before.before, ne_eqb _ _ c.if-turn-eq-DONE.false) (refl, (refl, refl))) in
+    record {
+      value = all.0;
+      session_value = all.1.0;
+      table_after = all.1.1;
+    }
+
+pub returns : goal.returns
 returns c =
-    let at_store = c.before.before in
-    let at-if2 = at_store.before.before in
-    rw (turned at-if2.before.before, eq-eqb _ _ at-if2.if2.true) (refl, (refl, at_store.store.ensures))
-
-same-length-2 : tie.Need-same-length-2
-same-length-2 c = search rules
-
-returns-2 : tie.Need-returns-2
-returns-2 c = rw (turned c.before.before, ne_eqb _ _ c.if2.false) (refl, (refl, refl))
-
-returns-3 : tie.Need-returns-3
-returns-3 c =
-    let a = c.before.before.before.before.args in
-    rw (host-refused (OnPage a.page a.m) (lent a.session.now a.table.now) refl (sym c.before.is-sound.ensures ∙ c.if1.false))
-    (refl, (refl, refl))
-
-pub on_page_spec : {M : Type 1} → statement M
-on_page_spec =
-    tie.close
-    (tie.spec
-    is-sound-requires
-    phase-at-requires
-    pages-at-requires
-    clock-at-requires
-    load-requires
-    on-words-requires
-    store-requires
-    same_length
-    returns
-    same-length-2
-    returns-2
-    returns-3)
+    let all = (let a = c.args in
+    rw (host-refused (OnPage a.page a.m) (lent a.session.now a.table.now) refl (sym c.is_sound.ensures ∙ c.if-is_sound.false))
+    (refl, (refl, refl))) in
+    record {
+      value = all.0;
+      session_value = all.1.0;
+      table_after = all.1.1;
+    }
