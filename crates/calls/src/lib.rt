@@ -1,6 +1,7 @@
 // Every call of the bench as one data type, by shape, so that what holds of all calls, or of all calls of a shape, is said once.
 
 #![tactic(auto)]
+
 ghost use Rattle.std.specs.Prelude.{◌≡◌, []};
 ghost use Rattle.calls.specs.Calls.{without_numbers, scan_numbers, export_numbers, list_numbers, effect_of};
 

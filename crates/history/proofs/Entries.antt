@@ -2,13 +2,12 @@
 -- contents are sent is clean and has no translation left that would write unseen.
 use native.Mathlib.Omega.{arith}
 use mathlib.Core.Path.{◌≡◌, refl}
-use mathlib.Core.Bool.{Bool, true, false, cond, not, ◌&&◌, true≢false, false≢true}
+use mathlib.Core.Bool.{Bool, true, false, cond, not, ◌&&◌, false≢true}
 use mathlib.Core.List.{[], ◌∷◌}
 use Prim.Native.Nat.{ℕ, ◌<◌}
-use lib.Dec.{eqb, ltb}
-use borrow.Author.Tests.{ltb-true, eqb-false}
+use borrow.Author.Tests.{eqb-false}
 use Rattle.words.specs.declared.entries.Entry.{Entry}
-use Rattle.refusals.proofs.Laws.{and_left, and_right, not-true, not-false, passed}
+use Rattle.refusals.proofs.Laws.{not-false, passed}
 use Rattle.states.specs.States.{State, is_strange, is_in, has_move, goes_by, number_in}
 use Rattle.states.specs.Lists.{pending_states, blocked_states, cancelled_states, exports, operated, data_states}
 use Rattle.states.proofs.Laws.{move-each}

@@ -1,9 +1,8 @@
 -- Moves of one page: the guest's and memory calls, and a scan that lists it. By document 01's lists of changes: a change asks nothing new of the destination; a
 -- write to an exported page is seen, for Dirty is set where Cached was clear.
-use native.Mathlib.Omega.{arith}
-use mathlib.Core.Path.{◌≡◌, refl, sym, ap, ◌∙◌}
+use mathlib.Core.Path.{◌≡◌, refl, sym, ◌∙◌}
 use mathlib.Core.Bool.{Bool, true, false, not, ◌&&◌, ◌||◌, true≢false, false≢true}
-use mathlib.Core.List.{List, [], ◌∷◌}
+use mathlib.Core.List.{List}
 use Prim.Native.Nat.{ℕ}
 use Rattle.refusals.proofs.Laws.{either, Passed, and_left, and_right, or_left_false, not-true, not-false}
 use Rattle.states.specs.States.{State, state_of, is_strange, is_in, Change, has_move, goes_by}
@@ -19,7 +18,7 @@ use Rattle.session.specs.declared.Phase.{Phase}
 use Rattle.session.specs.declared.Phase.TheVariants.{Idle, Live, Blackout, Done}
 use Rattle.scan.specs.Look.{renewed, listed_page}
 use Rattle.bundle.specs.Bundle.{Holding}
-use Rattle.history.proofs.Pages.{Moment, There, is_exported, is_pending_exported, Same, Seen, Still, Ok, Step, stay, there-as, same-free, if-false, if-map, while-map}
+use Rattle.history.proofs.Pages.{Moment, There, is_exported, is_pending_exported, Same, Seen, Still, Step, stay, there-as, same-free, if-false, if-map, while-map}
 use Rattle.history.proofs.Pages.{seen-zero, seen-now}
 
 -- ---- changes of state

@@ -15,7 +15,7 @@ use Rattle.page.specs.Page.{Page}
 use Rattle.page.specs.declared.moves.Move.{Move}
 use Rattle.page.specs.declared.sweeps.Sweep.{Sweep}
 use Rattle.page.proofs.MoveLaws.{swept-held}
-use Rattle.table.specs.Table.{page_count, words_at, page_at, put_at, sweep_of}
+use Rattle.table.specs.Table.{page_count, words_at, page_at, sweep_of}
 use Rattle.table.proofs.Laws.{put-length, sweep-length, page-swept}
 use Rattle.session.specs.Outcome.{Outcome}
 use Rattle.session.specs.declared.Phase.TheVariants.{Idle}

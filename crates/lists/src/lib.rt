@@ -1,6 +1,7 @@
 // A list, whichever call takes it: what is asked of it and of its info word, its entries in turn, and the info word as it comes back.
 
 #![tactic(auto)]
+
 ghost use Rattle.std.specs.Prelude.{◌≡◌};
 ghost use Rattle.words.specs.Info.{info_word, with_first};
 ghost use Rattle.refusals.specs.Refusals.{first_of};

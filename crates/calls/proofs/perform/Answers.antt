@@ -1,5 +1,4 @@
 -- Each arm is its clause of the definition, by the contract of the call that it makes.
-use borrow.Author.Rules.{rules}
 use mathlib.Core.Path.{refl, sym, ap, ◌∙◌}
 use Rattle.migration.proofs.Laws.{alone-answer, alone-table}
 use Rattle.calls.specs.Calls.{without_numbers, scan_numbers, export_numbers, list_numbers}

@@ -1,5 +1,4 @@
 -- The numbers that the case of the token stands for.
-use borrow.Author.Rules.{rules}
 use Rattle.calls.proofs.start_token.Goals as goal
 
 pub returns : goal.returns

@@ -1,5 +1,4 @@
 -- Each way is the definition at the test of the last entry; LAST+1 wraps as LAST's own remainder plus one does.
-use borrow.Author.Rules.{rules}
 use native.Mathlib.Omega.{arith}
 use mathlib.Core.Path.{◌≡◌, sym, ap, ◌∙◌}
 use Prim.Native.Nat.{ℕ, ◌+◌, ◌%◌}

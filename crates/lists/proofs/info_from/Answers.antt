@@ -1,5 +1,4 @@
 -- The info word is written with another FIRST.
-use borrow.Author.Rules.{rules}
 use Rattle.lists.proofs.info_from.Goals as goal
 
 pub returns : goal.returns

@@ -1,5 +1,4 @@
 -- Each arm is its clause of the definition.
-use borrow.Author.Rules.{rules}
 use Rattle.lists.proofs.take.Goals as goal
 
 pub returns-in-Export : goal.returns-in-Export

@@ -1,5 +1,4 @@
 -- A flag adds 1 at most.
-use borrow.Author.Rules.{rules}
 use native.Mathlib.Omega.{arith}
 use Rattle.words.proofs.Runs.{bit-lt}
 use Rattle.lists.proofs.runs.count_if.Goals as goal

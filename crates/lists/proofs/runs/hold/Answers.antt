@@ -1,5 +1,4 @@
 -- Past the end `set` leaves the words.
-use borrow.Author.Rules.{rules}
 use mathlib.Core.Path.{sym}
 use lib.Seq.{set_out}
 use Rattle.lists.proofs.runs.hold.Goals as goal

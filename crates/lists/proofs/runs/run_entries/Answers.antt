@@ -1,13 +1,10 @@
 -- The rest of the run is the whole run; and no count passes the next index, which stops behind the last entry.
-use borrow.Author.Rules.{rules}
-use mathlib.Core.Path.{◌≡◌, refl, sym, ◌∙◌}
-use Prim.Native.Nat.{◌+◌, ◌-◌, ◌≤◌}
+use mathlib.Core.Path.{refl, sym, ◌∙◌}
 use native.Mathlib.Omega.{arith}
 use native.Mathlib.Nat.{sub-zero}
-use lib.ListN.{length}
 use Rattle.lists.specs.Kinds.{taken_by}
-use Rattle.lists.specs.Run.{standing, list_run}
-use Rattle.lists.proofs.Laws.{run-spent, run_end, run_step, returned, Counts, counts_step, next-step}
+use Rattle.lists.specs.Run.{standing}
+use Rattle.lists.proofs.Laws.{run-spent, run_end, run_step, returned, counts_step, next-step}
 use Rattle.lists.proofs.runs.run_entries.Goals as goal
 
 pub loop-at-init : goal.loop-at-init
@@ -41,11 +38,11 @@ returns-then-budget-spent c =
 
 pub step-at-requires : goal.step-at-requires
 step-at-requires c = (
-      omega (arith, c.loop-at-test.true, c.requires.0, c.loop-at.invariant.1),
-      omega (arith, c.loop-at-test.true, c.requires.1),
-      c.loop-at.invariant.4.errors,
-      c.loop-at.invariant.4.filled,
-    )
+  omega (arith, c.loop-at-test.true, c.requires.0, c.loop-at.invariant.1),
+  omega (arith, c.loop-at-test.true, c.requires.1),
+  c.loop-at.invariant.4.errors,
+  c.loop-at.invariant.4.filled,
+)
 
 pub loop-at-preserved : goal.loop-at-preserved
 loop-at-preserved c = let here = standing c.loop-at.at c.loop-at.table c.loop-at.list c.loop-at.buffer in

@@ -1,12 +1,9 @@
-use borrow.Author.Rules.{rules}
-use mathlib.Core.Path.{◌≡◌, refl, sym, ◌∙◌}
+use mathlib.Core.Path.{◌≡◌}
 use Prim.Native.Nat.{◌+◌, ◌-◌, ◌≤◌}
-use native.Mathlib.Omega.{arith}
-use native.Mathlib.Nat.{sub-zero}
 use lib.ListN.{length}
 use Rattle.lists.specs.Kinds.{taken_by}
 use Rattle.lists.specs.Run.{standing, list_run}
-use Rattle.lists.proofs.Laws.{run-spent, run_end, run_step, returned, Counts, counts_step, next-step}
+use Rattle.lists.proofs.Laws.{Counts}
 use Rattle.lists.proofs.runs.run_entries.Given as goal
 
 abbrev pub invariant-loop-at : goal.invariant-loop-at

@@ -1,6 +1,5 @@
 -- The words are the definition's of what was read; a store leaves the list and the buffer.
-use borrow.Author.Rules.{rules}
-use mathlib.Core.Path.{refl, ap}
+use mathlib.Core.Path.{ap}
 use native.Mathlib.Omega.{arith}
 use Rattle.words.specs.declared.entries.Entry.{Entry}
 use Rattle.lists.specs.Run.{stepped}

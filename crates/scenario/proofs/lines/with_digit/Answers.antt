@@ -2,7 +2,6 @@
 use Prim.Native.Nat.{ℕ, ◌+◌, ◌*◌, ◌-◌, ◌/◌, ◌≤◌, ◌<◌}
 use native.Mathlib.Nat.{le-div_iff_mul-le}
 use native.Mathlib.Omega.{arith}
-use borrow.Author.Rules.{rules}
 use Rattle.scenario.proofs.lines.with_digit.Goals as goal
 
 room : (n base d : ℕ) → 1 ≤ base → d < 16 → n ≤ (18446744073709551615 - d) / base → n * base + d ≤ 18446744073709551615
@@ -11,8 +10,7 @@ room n base d positive digit h =
     omega (arith, product, digit)
 
 pub overflow_add-next : goal.overflow_add-next
-overflow_add-next c = let number = c.begun-next.result.number in
-    omega (arith, room number _ _ c.base_of-base.ensures c.requires (omega arith))
+overflow_add-next c = omega (arith, room c.begun-next.result.number _ _ c.base_of-base.ensures c.requires (omega arith))
 
 pub overflow_mul-next : goal.overflow_mul-next
-overflow_mul-next c = omega (arith, add-with-number c)
+overflow_mul-next c = omega (arith, room c.begun-next.result.number _ _ c.base_of-base.ensures c.requires (omega arith))

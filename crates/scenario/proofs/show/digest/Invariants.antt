@@ -1,7 +1,5 @@
-use Prim.Native.Nat.{◌-◌, ◌≤◌, ◌<◌}
-use native.Mathlib.Omega.{arith}
-use lib.ListN.{length}
-use borrow.Author.Rules.{rules}
+-- A digest stays below the prime, so that with a word's two halves, each below 2 ^ 32, no sum wraps.
+use Rattle.std.proofs.Common.{◌-◌, ◌≤◌, ◌<◌, length}
 use Rattle.scenario.proofs.show.digest.Given as goal
 
 abbrev pub invariant-loop-i : goal.invariant-loop-i

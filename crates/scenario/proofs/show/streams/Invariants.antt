@@ -1,9 +1,9 @@
-use Prim.Native.Nat.{◌-◌, ◌≤◌}
-use borrow.Author.Rules.{rules}
+-- The loop passes each of the eight streams once.
+use Rattle.std.proofs.Common.{◌-◌, ◌≤◌}
 use Rattle.scenario.proofs.show.streams.Given as goal
 
 abbrev pub invariant-loop-i : goal.invariant-loop-i
-invariant-loop-i l = l.initial.i ≤ 8
+invariant-loop-i g l = l.i ≤ 8
 
 abbrev pub decreases-loop-i : goal.decreases-loop-i
-decreases-loop-i l = 8 - l.initial.i
+decreases-loop-i g l = 8 - l.i
