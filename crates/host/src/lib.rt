@@ -2,6 +2,7 @@
 // those of `chirpsteeple`.
 
 #![tactic(auto)]
+
 pub mod answers;
 pub mod pages;
 pub mod reads;

@@ -1,5 +1,4 @@
 -- Of another length than a session's nothing is read; else the test in its bytes is the definition's.
-use borrow.Author.Rules.{rules}
 use borrow.Author.Tests.{eq-eqb, ne_eqb}
 use Rattle.host.specs.Inside.{sound}
 use Rattle.host.proofs.reads.is_sound.Goals as goal

@@ -1,5 +1,4 @@
 -- The test is the definition's, with the engine's `legal` in it.
-use borrow.Author.Rules.{rules}
 use Rattle.host.proofs.reads.is_table.Goals as goal
 
 pub returns : goal.returns

@@ -1,5 +1,4 @@
 -- By what is asked, and by what stops the call.
-use borrow.Author.Rules.{rules}
 use Rattle.host.proofs.sweeps.is_stopped.Goals as goal
 
 pub returns-in-Never : goal.returns-in-Never

@@ -1,5 +1,4 @@
 -- Past 40 the gate asks for the phase alone, and the law tells the rest.
-use borrow.Author.Rules.{rules}
 use mathlib.Core.Path.{sym, ◌∙◌}
 use borrow.Author.Tests.{eq-eqb}
 use Rattle.session.proofs.Laws.{gate-formed}

@@ -1,5 +1,4 @@
 -- By what is asked.
-use borrow.Author.Rules.{rules}
 use mathlib.Core.Path.{sym, ◌∙◌}
 use mathlib.Core.Bool.{false≢true}
 use Rattle.host.proofs.tables.first.Goals as goal

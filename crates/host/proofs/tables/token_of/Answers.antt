@@ -1,5 +1,4 @@
 -- Past 40 the gate asks for the phase alone, and what is looked for is what the token asks for.
-use borrow.Author.Rules.{rules}
 use mathlib.Core.Path.{sym, ◌∙◌}
 use mathlib.Core.List.{[]}
 use lib.ListN.{length}
