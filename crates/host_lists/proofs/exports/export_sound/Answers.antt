@@ -26,8 +26,7 @@ use Rattle.host.proofs.LayoutLaws.{Sound, sound-means, table-whole}
 use Rattle.host.proofs.ListLaws.{list-whole, export-comes}
 use Rattle.host_lists.proofs.Gates.{gate_for, listed-passed, listed-refused}
 use Rattle.host_lists.proofs.Runs.{export-refuses, export-ran}
-use Rattle.host_lists.proofs.exports.export_sound.Statement.{statement}
-use Rattle.host_lists.proofs.exports.export_sound.Tie as tie
+use Rattle.host_lists.proofs.exports.export_sound.Goals as goal
 
 -- past 40
 sounds : (c : tie.Start) → Sound c.args.session.now (length c.args.table.now)
@@ -134,40 +133,31 @@ goes c =
       short = omega (arith, last-read c, ready.short);
     }
 
-info-of-requires : tie.Need-info-of-requires
-info-of-requires c κs = search rules
+pub gate_at-gate-requires : goal.gate_at-gate-requires
+gate_at-gate-requires c = (sounds c.before.before.before.before.before.before).long
 
-gate-at-requires : tie.Need-gate-at-requires
-gate-at-requires c κs = (sounds c.before.before.before.before.before.before).long
+pub created_at-created-requires : goal.created_at-created-requires
+created_at-created-requires c = (sounds c.before.before.before.before.before.before.before.before).long
 
-created-at-requires : tie.Need-created-at-requires
-created-at-requires c κs = (sounds c.before.before.before.before.before.before.before.before).long
+pub work_at-work-requires : goal.work_at-work-requires
+work_at-work-requires c = (sounds c.before.before.before.before.before.before.before.before.before.before).long
 
-work-at-requires : tie.Need-work-at-requires
-work-at-requires c κs = (sounds c.before.before.before.before.before.before.before.before.before.before).long
+pub returns-then-code-ne-DONE : goal.returns-then-code-ne-DONE
+returns-then-code-ne-DONE c =
+    let all = (rw (refuses c.before) (c.code_alone.ensures, (refl, (refl, (refl, refl))))) in
+    record {
+      value = all.0;
+      session_after = all.1.0;
+      table_after = all.1.1.0;
+      list_after = all.1.1.1.0;
+      buffer_after = all.1.1.1.1;
+    }
 
-export-code-requires : tie.Need-export-code-requires
-export-code-requires c κs = search rules
+pub ground_at-g-requires : goal.ground_at-g-requires
+ground_at-g-requires c = (sounds (start c.before.before)).long
 
-code-alone-requires : tie.Need-code-alone-requires
-code-alone-requires c κs = search rules
-
-same_length : tie.Need-same-length
-same_length c = search rules
-
-returns : tie.Need-returns
-returns c = rw (refuses c.before) (c.code-alone.ensures, (refl, (refl, (refl, refl))))
-
-ground-at-requires : tie.Need-ground-at-requires
-ground-at-requires c κs = (sounds (start c.before.before)).long
-
-begin-requires : tie.Need-begin-requires
-begin-requires c κs = search rules
-
-run-entries-requires : tie.Need-run-entries-requires
-run-entries-requires c κs =
-    let at-begin = c.before.before.before in
-    let a = (start (at_code at-begin)).args in
+pub run_entries-at-requires : goal.run_entries-at-requires
+run_entries-at-requires c = let a = (start (at_code at-begin)).args in
     let g = goes at-begin in
     let both = and_left (is_list (length a.list.now) && is_list (length a.buffer.now)) (leb a.resume 1) (passes at-begin.before.before.before).0 in (
       (
@@ -178,75 +168,36 @@ run-entries-requires c κs =
       (omega (arith, last-read at-begin, words-length a.list.now, (go_on at-begin).within), g.short, g.next, g.errors, g.filled),
     )
 
-end-requires : tie.Need-end-requires
-end-requires c κs =
-    let at-run = c.before.before.before.before.before.before in
-    let at-begin = at-run.before.before.before.before in
-    let a = (start (at_code at-begin)).args in
+pub end-ended-requires : goal.end-ended-requires
+end-ended-requires c = let a = (start (at_code at-begin)).args in
     let g = goes at-begin in
-    let from = standing at-begin.begin.result (words_of a.table.now) (words_of a.list.now) (words_of a.buffer.now) in
-    let bounds = run-bounds (export_step at-begin.before.ground-at.result)
+    let from = standing c.begin-from.result (words_of a.table.now) (words_of a.list.now) (words_of a.buffer.now) in
+    let bounds = run-bounds (export_step c.ground_at-g.result)
     (at_code at-begin).before.before.before.before.before.before.before.info-of.result.last a.budget from
     (record { next = g.next; counts = record { errors = g.errors; filled = g.filled } }) in
-    let ended = at-run.run-entries.ensures.0 in
+    let ended = c.run_entries-at.ensures.value in
     let next = ap (λ (p : Progress). p.next) ended in
     (g.short, omega (arith, next, bounds.next), omega (arith, next, ap (λ (p : Progress). p.filled) ended, bounds.counts.filled))
 
-put-change-requires : tie.Need-put-change-requires
-put-change-requires c κs = (sounds (start (at_code c.before.before.before.before.before.before.before.before.before.before.before.before))).long
+pub put_change-requires : goal.put_change-requires
+put_change-requires c = (sounds (start (at_code c.before.before.before.before.before.before.before.before.before.before.before.before))).long
 
-numbers-of-requires : tie.Need-numbers-of-requires
-numbers-of-requires c κs = search rules
-
-same-length-2 : tie.Need-same-length-2
-same-length-2 c = search rules
-
-same-length-3 : tie.Need-same-length-3
-same-length-3 c = search rules
-
-same-length-4 : tie.Need-same-length-4
-same-length-4 c = search rules
-
-same-length-5 : tie.Need-same-length-5
-same-length-5 c = search rules
-
-returns-2 : tie.Need-returns-2
-returns-2 c =
-    let at-put = c.before.before.before in
-    let at-end = at-put.before.before in
-    let at-run = at-end.before.before.before.before.before.before.before in
-    let at-begin = at-run.before.before.before.before in
-    let a = (start (at_code at-begin)).args in
+pub returns : goal.returns
+returns c =
+    let all = (let a = (start (at_code at-begin)).args in
     let p = passes at-begin.before.before.before in
-    let ran = at-run.run-entries.ensures in
+    let ran = c.run_entries-at.ensures in
     rw (
       export-ran a.session.now a.table.now a.list.now a.buffer.now (bytes (at_code at-begin)) (sounds (start (at_code at-begin))) a.stream
-          a.resume a.info a.budget _ (info-read at-begin) _ at-begin.before.ground-at.ensures _ (begun at-begin) p.0 p.1,
+          a.resume a.info a.budget _ (info-read at-begin) _ c.ground_at-g.ensures _ (begun at-begin) p.0 p.1,
       ← ran.0,
-      ← at-end.end.ensures,
+      ← c.end-ended.ensures,
     )
-    (c.Numbers-of.ensures, (at-put.put-change.ensures, (ran.1.0, (ran.1.1.0, ran.1.1.1))))
-
-pub export_sound_spec : {M : Type 1} → statement M
-export_sound_spec =
-    tie.close
-    (tie.spec
-    info-of-requires
-    gate-at-requires
-    created-at-requires
-    work-at-requires
-    export-code-requires
-    code-alone-requires
-    same_length
-    returns
-    ground-at-requires
-    begin-requires
-    run-entries-requires
-    end-requires
-    put-change-requires
-    numbers-of-requires
-    same-length-2
-    same-length-3
-    same-length-4
-    same-length-5
-    returns-2)
+    (c.numbers_of.ensures, (c.put_change.ensures, (ran.1.0, (ran.1.1.0, ran.1.1.1))))) in
+    record {
+      value = all.0;
+      session_after = all.1.0;
+      table_after = all.1.1.0;
+      list_after = all.1.1.1.0;
+      buffer_after = all.1.1.1.1;
+    }

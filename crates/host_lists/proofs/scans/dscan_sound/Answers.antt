@@ -21,8 +21,7 @@ use Rattle.host.proofs.LayoutLaws.{Sound, sound-means, table-whole}
 use Rattle.host.proofs.ListLaws.{list-whole, dscan-comes}
 use Rattle.host_lists.proofs.Gates.{gate_for, listed-passed, listed-refused}
 use Rattle.host_lists.proofs.Runs.{list-words, dscan-refuses, dscan-ran}
-use Rattle.host_lists.proofs.scans.dscan_sound.Statement.{statement}
-use Rattle.host_lists.proofs.scans.dscan_sound.Tie as tie
+use Rattle.host_lists.proofs.scans.dscan_sound.Goals as goal
 
 -- past 40
 sounds : (c : tie.Start) → Sound c.args.session.now (length c.args.table.now)
@@ -78,35 +77,28 @@ passes c =
     listed-passed (Dscan a.first a.count a.budget) (Live ∷ []) (dscan-comes a.first a.count a.budget)
     (lent_list a.session.now a.table.now a.list.now) (sounds (start c.before)) _ (sym (coded c.before) ∙ c.if1.false)
 
-phase-at-requires : tie.Need-phase-at-requires
-phase-at-requires c κs = (sounds c.before.before.before).long
+pub phase_at-phase-requires : goal.phase_at-phase-requires
+phase_at-phase-requires c = (sounds c.before.before.before).long
 
-pages-at-requires : tie.Need-pages-at-requires
-pages-at-requires c κs = (sounds c.before.before.before.before).long
+pub pages_at-pages-requires : goal.pages_at-pages-requires
+pages_at-pages-requires c = (sounds c.before.before.before.before).long
 
-clock-at-requires : tie.Need-clock-at-requires
-clock-at-requires c κs = (sounds c.before.before.before.before.before).long
+pub clock_at-clock-requires : goal.clock_at-clock-requires
+clock_at-clock-requires c = (sounds c.before.before.before.before.before).long
 
-is-list-requires : tie.Need-is-list-requires
-is-list-requires c κs = search rules
+pub returns-then-code-ne-DONE : goal.returns-then-code-ne-DONE
+returns-then-code-ne-DONE c =
+    let all = (rw (refuses c.before) (c.code_alone.ensures, (refl, (refl, refl)))) in
+    record {
+      value = all.0;
+      session_value = all.1.0;
+      table_after = all.1.1.0;
+      list_after = all.1.1.1;
+    }
 
-gate-requires : tie.Need-gate-requires
-gate-requires c κs = search rules
-
-dscan-code-requires : tie.Need-dscan-code-requires
-dscan-code-requires c κs = search rules
-
-code-alone-requires : tie.Need-code-alone-requires
-code-alone-requires c κs = search rules
-
-returns : tie.Need-returns
-returns c = rw (refuses c.before) (c.code-alone.ensures, (refl, (refl, refl)))
-
-scan-range-requires : tie.Need-scan-range-requires
+pub scan_range-got-requires : goal.scan_range-got-requires
 unfolding dscan_code
-scan-range-requires c κs =
-    let at_code = c.before.before.before in
-    let a = (start at_code).args in
+scan_range-got-requires c = let a = (start at_code).args in
     let h = sounds (start at_code) in
     let table = table-whole _ h.table in
     let p = passes c.before.before in
@@ -116,41 +108,18 @@ scan-range-requires c κs =
       (omega (arith, table, words-length a.table.now, fits.0), omega (arith, table, words-length a.table.now, fits.1)),
     )
 
-numbers-of-requires : tie.Need-numbers-of-requires
-numbers-of-requires c κs = search rules
-
-same_length : tie.Need-same-length
-same_length c = search rules
-
-same-length-2 : tie.Need-same-length-2
-same-length-2 c = search rules
-
-returns-2 : tie.Need-returns-2
-returns-2 c =
-    let at-range = c.before.before.before.before.before in
-    let at_code = at-range.before.before.before.before in
-    let a = (start at_code).args in
+pub returns : goal.returns
+returns c =
+    let all = (let a = (start at_code).args in
     let p = passes at-range.before.before.before in
-    let ran = rw at_code.before.before.before.clock-at.ensures at at-range.scan-range.ensures in
+    let ran = rw c.clock_at-clock.ensures at c.scan_range-got.ensures in
     rw (
       dscan-ran a.session.now a.table.now a.list.now (bytes at_code) (sounds (start at_code)) a.first a.count a.budget p.0 p.1,
       ← ran.0,
-    ) (c.Numbers-of.ensures, (refl, (ran.1.0, ran.1.1)))
-
-pub dscan_sound_spec : {M : Type 1} → statement M
-dscan_sound_spec =
-    tie.close
-    (tie.spec
-    phase-at-requires
-    pages-at-requires
-    clock-at-requires
-    is-list-requires
-    gate-requires
-    dscan-code-requires
-    code-alone-requires
-    returns
-    scan-range-requires
-    numbers-of-requires
-    same_length
-    same-length-2
-    returns-2)
+    ) (c.numbers_of.ensures, (refl, (ran.1.0, ran.1.1)))) in
+    record {
+      value = all.0;
+      session_value = all.1.0;
+      table_after = all.1.1.0;
+      list_after = all.1.1.1;
+    }

@@ -22,8 +22,7 @@ use Rattle.host.proofs.LayoutLaws.{Sound, sound-means, table-whole, host-refused
 use Rattle.host.proofs.ListLaws.{list-whole, restore-comes}
 use Rattle.host_lists.proofs.Gates.{gate_for, listed-passed, listed-refused}
 use Rattle.host_lists.proofs.Runs.{no_words, list-words, restore-refuses, restore-ran}
-use Rattle.host_lists.proofs.restores.restore.Statement.{statement}
-use Rattle.host_lists.proofs.restores.restore.Tie as tie
+use Rattle.host_lists.proofs.restores.restore.Goals as goal
 
 abbrev start : tie.Then1 → tie.Start
 start c = c.before.before.before.before.before
@@ -84,49 +83,29 @@ passes c =
     listed-passed (Restore a.info a.budget) (Idle ∷ []) (restore-comes a.info a.budget) (lent_in (start (entered c.before)))
     (sounds (entered c.before)) _ (sym (coded c.before) ∙ c.if2.false)
 
-is-sound-requires : tie.Need-is-sound-requires
-is-sound-requires c κs = search rules
+pub phase_at-phase-requires : goal.phase_at-phase-requires
+phase_at-phase-requires c = (sounds c.before).long
 
-info-of-requires : tie.Need-info-of-requires
-info-of-requires c κs = search rules
+pub returns-then-code-ne-DONE : goal.returns-then-code-ne-DONE
+returns-then-code-ne-DONE c =
+    let all = (rw (refuses c.before) (c.code_alone.ensures, (refl, (refl, refl)))) in
+    record {
+      value = all.0;
+      session_value = all.1.0;
+      table_after = all.1.1.0;
+      list_after = all.1.1.1;
+    }
 
-phase-at-requires : tie.Need-phase-at-requires
-phase-at-requires c κs = (sounds c.before).long
+pub ground_at-g-requires : goal.ground_at-g-requires
+ground_at-g-requires c = (sounds (entered c.before)).long
 
-is-list-requires : tie.Need-is-list-requires
-is-list-requires c κs = search rules
-
-gate-requires : tie.Need-gate-requires
-gate-requires c κs = search rules
-
-restore-code-requires : tie.Need-restore-code-requires
-restore-code-requires c κs = search rules
-
-code-alone-requires : tie.Need-code-alone-requires
-code-alone-requires c κs = search rules
-
-returns : tie.Need-returns
-returns c = rw (refuses c.before) (c.code-alone.ensures, (refl, (refl, refl)))
-
-ground-at-requires : tie.Need-ground-at-requires
-ground-at-requires c κs = (sounds (entered c.before)).long
-
-begin-requires : tie.Need-begin-requires
-begin-requires c κs = search rules
-
-slice-aggregate-buffer : tie.Need-slice-aggregate-buffer
-slice-aggregate-buffer c = search rules
-
-run-entries-requires : tie.Need-run-entries-requires
+pub run_entries-at-requires : goal.run_entries-at-requires
 unfolding restore_code
-run-entries-requires c κs =
-    let at-begin = c.before.before.before in
-    let past = at-begin.before.before in
-    let a = (start (entered past.before)).args in
+run_entries-at-requires c = let a = (start (entered past.before)).args in
     let p = passes past in
     let x = (at-info past.before).info-of.result in
     let ready = restore-ready _ _ (length (words_of a.list.now)) x p.1 in
-    let from = at-begin.begin.ensures in (
+    let from = c.begin-from.ensures in (
       (
         table-whole _ (sounds (entered past.before)).table,
         list-whole _ (sym (list-words a.session.now a.table.now a.list.now) ∙ p.0),
@@ -141,59 +120,32 @@ run-entries-requires c κs =
       ),
     )
 
-end-requires : tie.Need-end-requires
-end-requires c κs = search rules
-
-same_length : tie.Need-same-length
-same_length c = search rules
-
-same-length-2 : tie.Need-same-length-2
-same-length-2 c = search rules
-
-returns-2 : tie.Need-returns-2
-returns-2 c =
-    let at-run = c.before.before.before.before.before.before in
-    let at-begin = at-run.before.before.before.before in
-    let past = at-begin.before.before in
-    let a = (start (entered past.before)).args in
+pub returns-then-is_sound : goal.returns-then-is_sound
+returns-then-is_sound c =
+    let all = (let a = (start (entered past.before)).args in
     let p = passes past in
     let bytes : Bytes a.session.now = λ i. omega (arith, (entered past.before).before.before.before.before.shared-slice-known.given i) in
-    let ran = rw (at-begin.before.ground-at.ensures, at-begin.begin.ensures, no_words) at at-run.run-entries.ensures in
+    let ran = rw (c.ground_at-g.ensures, c.begin-from.ensures, no_words) at c.run_entries-at.ensures in
     rw (
       restore-ran a.session.now a.table.now a.list.now bytes (sounds (entered past.before)) a.info a.budget _
           (at-info past.before).info-of.ensures.0 p.0 p.1,
       ← ran.0,
-      ← c.end.ensures,
-    ) (refl, (refl, (ran.1.0, ran.1.1.0)))
+      ← c.end-ended.ensures,
+    ) (refl, (refl, (ran.1.0, ran.1.1.0)))) in
+    record {
+      value = all.0;
+      session_value = all.1.0;
+      table_after = all.1.1.0;
+      list_after = all.1.1.1;
+    }
 
-code-alone-requires-2 : tie.Need-code-alone-requires-2
-code-alone-requires-2 c κs = search rules
-
-returns-3 : tie.Need-returns-3
-returns-3 c =
-    let at-start = c.before.before.before.before.before.before in
-    let none = sym c.before.before.is-sound.ensures ∙ c.before.if1.false in
-    rw (host-refused (Restore at-start.args.info at-start.args.budget) (lent_in at-start) refl none) (c.code-alone2.ensures, (refl, (refl, refl)))
-
-pub restore_spec : {M : Type 1} → statement M
-restore_spec =
-    tie.close
-    (tie.spec
-    is-sound-requires
-    info-of-requires
-    phase-at-requires
-    is-list-requires
-    gate-requires
-    restore-code-requires
-    code-alone-requires
-    returns
-    ground-at-requires
-    begin-requires
-    slice-aggregate-buffer
-    run-entries-requires
-    end-requires
-    same_length
-    same-length-2
-    returns-2
-    code-alone-requires-2
-    returns-3)
+pub returns : goal.returns
+returns c =
+    let all = (let none = sym c.is_sound.ensures ∙ c.if-is_sound.false in
+    rw (host-refused (Restore c.args.info c.args.budget) (lent_in at-start) refl none) (c.code_alone-2.ensures, (refl, (refl, refl)))) in
+    record {
+      value = all.0;
+      session_value = all.1.0;
+      table_after = all.1.1.0;
+      list_after = all.1.1.1;
+    }

@@ -10,11 +10,7 @@ use Rattle.refusals.specs.Refusals.{◌gives◌, first_of}
 use Rattle.session.specs.Session.{phases_of}
 use Rattle.session.specs.Formed.{phase_tests, behind}
 use Rattle.session.proofs.Laws.{first_then}
-use Rattle.host_lists.proofs.gate.Statement.{statement}
-use Rattle.host_lists.proofs.gate.Tie as tie
-
-phase-code-requires : tie.Need-phase-code-requires
-phase-code-requires c κs = search rules
+use Rattle.host_lists.proofs.gate.Goals as goal
 
 told : (c : tie.After-phase-code) →
     let a = c.before.args in
@@ -25,14 +21,11 @@ told c =
     let own = not a.words gives codes.operand_invalid ∷ [] in
     first_then (phase_tests a.phase (phases_of a.when) []) own refl ∙ ap (λ (n : ℕ). behind n own) (sym c.phase-code.ensures)
 
-returns : tie.Need-returns
-returns c = sym (told c.before ∙ rw (ne_eqb _ _ c.if1.true))
+pub returns-then-code-ne-DONE : goal.returns-then-code-ne-DONE
+returns-then-code-ne-DONE c = sym (told c.before ∙ rw (ne_eqb _ _ c.if-code-ne-DONE.true))
 
-returns-2 : tie.Need-returns-2
-returns-2 c = sym (told c.before.before ∙ rw (eq-eqb _ _ c.before.if1.false, c.if2.true))
+pub returns-then-not-words : goal.returns-then-not-words
+returns-then-not-words c = sym (told c.before.before ∙ rw (eq-eqb _ _ c.if-code-ne-DONE.false, c.if-not-words.true))
 
-returns-3 : tie.Need-returns-3
-returns-3 c = sym (told c.before.before ∙ rw (eq-eqb _ _ c.before.if1.false, c.if2.false))
-
-pub gate_spec : {M : Type 1} → statement M
-gate_spec = tie.close (tie.spec phase-code-requires returns returns-2 returns-3)
+pub returns : goal.returns
+returns c = sym (told c.before.before ∙ rw (eq-eqb _ _ c.if-code-ne-DONE.false, c.if-not-words.false))

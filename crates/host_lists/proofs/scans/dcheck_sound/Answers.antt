@@ -22,8 +22,7 @@ use Rattle.host.proofs.LayoutLaws.{Sound, sound-means, table-whole}
 use Rattle.host.proofs.ListLaws.{list-whole, dcheck-comes}
 use Rattle.host_lists.proofs.Gates.{gate_for, listed-passed, listed-refused}
 use Rattle.host_lists.proofs.Runs.{list-words, dcheck-refuses, dcheck-ran}
-use Rattle.host_lists.proofs.scans.dcheck_sound.Statement.{statement}
-use Rattle.host_lists.proofs.scans.dcheck_sound.Tie as tie
+use Rattle.host_lists.proofs.scans.dcheck_sound.Goals as goal
 
 -- past 40
 sounds : (c : tie.Start) → Sound c.args.session.now (length c.args.table.now)
@@ -97,45 +96,33 @@ pages-read : (c : tie.After-dcheck-code) →
     c.before.before.before.before.before.before.before.pages-at.result ≡ (session_of (words_of (start c).args.session.now)).fixed.pages
 pages-read c = c.before.before.before.before.before.before.before.pages-at.ensures
 
-phase-at-requires : tie.Need-phase-at-requires
-phase-at-requires c κs = (sounds c.before.before.before.before).long
+pub phase_at-phase-requires : goal.phase_at-phase-requires
+phase_at-phase-requires c = (sounds c.before.before.before.before).long
 
-pages-at-requires : tie.Need-pages-at-requires
-pages-at-requires c κs = (sounds c.before.before.before.before.before.before).long
+pub pages_at-pages-requires : goal.pages_at-pages-requires
+pages_at-pages-requires c = (sounds c.before.before.before.before.before.before).long
 
-clock-at-requires : tie.Need-clock-at-requires
-clock-at-requires c κs = (sounds c.before.before.before.before.before.before.before.before).long
+pub clock_at-clock-requires : goal.clock_at-clock-requires
+clock_at-clock-requires c = (sounds c.before.before.before.before.before.before.before.before).long
 
-check-at-requires : tie.Need-check-at-requires
-check-at-requires c κs = (sounds c.before.before.before.before.before.before.before.before.before.before).long
+pub check_at-check-requires : goal.check_at-check-requires
+check_at-check-requires c = (sounds c.before.before.before.before.before.before.before.before.before.before).long
 
-is-list-requires : tie.Need-is-list-requires
-is-list-requires c κs = search rules
+pub returns-then-code-ne-DONE : goal.returns-then-code-ne-DONE
+returns-then-code-ne-DONE c =
+    let all = (rw (refuses c.before) (c.code_alone.ensures, (refl, (refl, refl)))) in
+    record {
+      value = all.0;
+      session_after = all.1.0;
+      table_after = all.1.1.0;
+      list_after = all.1.1.1;
+    }
 
-gate-requires : tie.Need-gate-requires
-gate-requires c κs = search rules
+pub overflow_sub-pages : goal.overflow_sub-pages
+overflow_sub-pages c = omega (arith, place_read at_code, pages-read at_code, (ranges c.before.before).0)
 
-dcheck-code-requires : tie.Need-dcheck-code-requires
-dcheck-code-requires c κs = search rules
-
-code-alone-requires : tie.Need-code-alone-requires
-code-alone-requires c κs = search rules
-
-same_length : tie.Need-same-length
-same_length c = search rules
-
-returns : tie.Need-returns
-returns c = rw (refuses c.before) (c.code-alone.ensures, (refl, (refl, refl)))
-
-sub-scan-range : tie.Need-overflow_sub-scan-range
-sub-scan-range c =
-    let at_code = c.before.before.before in
-    omega (arith, place_read at_code, pages-read at_code, (ranges c.before.before).0)
-
-scan-range-requires : tie.Need-scan-range-requires
-scan-range-requires c κs =
-    let at_code = c.before.before.before in
-    let a = (start at_code).args in
+pub scan_range-got-requires : goal.scan_range-got-requires
+scan_range-got-requires c = let a = (start at_code).args in
     let table = table-whole _ (sounds (start at_code)).table in
     let fits = (ranges c.before.before).1 in (
       (table, list-whole _ (sym (list-words a.session.now a.table.now a.list.now) ∙ (passes c.before.before).0)),
@@ -145,61 +132,24 @@ scan-range-requires c κs =
       ),
     )
 
-check-after-requires : tie.Need-check-after-requires
-check-after-requires c κs = search rules
+pub put_change-requires : goal.put_change-requires
+put_change-requires c = (sounds (start c.before.before.before.before.before.before.before.before.before.before)).long
 
-put-change-requires : tie.Need-put-change-requires
-put-change-requires c κs = (sounds (start c.before.before.before.before.before.before.before.before.before.before)).long
-
-numbers-of-requires : tie.Need-numbers-of-requires
-numbers-of-requires c κs = search rules
-
-same-length-2 : tie.Need-same-length-2
-same-length-2 c = search rules
-
-same-length-3 : tie.Need-same-length-3
-same-length-3 c = search rules
-
-same-length-4 : tie.Need-same-length-4
-same-length-4 c = search rules
-
-returns-2 : tie.Need-returns-2
-returns-2 c =
-    let at-put = c.before.before.before in
-    let at_after = at-put.before.before in
-    let at-range = at_after.before.before.before.before.before in
-    let at_code = at-range.before.before.before.before in
-    let a = (start at_code).args in
+pub returns : goal.returns
+returns c =
+    let all = (let a = (start at_code).args in
     let p = passes at-range.before.before.before in
-    let clock = at_code.before.before.before.before.before.clock-at.ensures in
-    let pages = at_code.before.before.before.before.before.before.before.pages-at.ensures in
-    let ran = rw (clock, pages, at_code.before.before.before.check-at.ensures) at at-range.scan-range.ensures in
+    let clock = c.clock_at-clock.ensures in
+    let pages = c.pages_at-pages.ensures in
+    let ran = rw (clock, pages, c.check_at-check.ensures) at c.scan_range-got.ensures in
     rw (
       dcheck-ran a.session.now a.table.now a.list.now (bytes at_code) (sounds (start at_code)) a.budget p.0 p.1,
       ← ran.0,
-      ← at_after.check-after.ensures,
-    ) (c.Numbers-of.ensures, (at-put.put-change.ensures, (ran.1.0, ran.1.1)))
-
-pub dcheck_sound_spec : {M : Type 1} → statement M
-dcheck_sound_spec =
-    tie.close
-    (tie.spec
-    phase-at-requires
-    pages-at-requires
-    clock-at-requires
-    check-at-requires
-    is-list-requires
-    gate-requires
-    dcheck-code-requires
-    code-alone-requires
-    same_length
-    returns
-    sub-scan-range
-    scan-range-requires
-    check-after-requires
-    put-change-requires
-    numbers-of-requires
-    same-length-2
-    same-length-3
-    same-length-4
-    returns-2)
+      ← c.check_after-after.ensures,
+    ) (c.numbers_of.ensures, (c.put_change.ensures, (ran.1.0, ran.1.1)))) in
+    record {
+      value = all.0;
+      session_after = all.1.0;
+      table_after = all.1.1.0;
+      list_after = all.1.1.1;
+    }

@@ -1,0 +1,6 @@
+-- The gate of the phase that is read, and of what is a list.
+use borrow.Author.Rules.{rules}
+use Rattle.host_lists.proofs.exports.gate_at.Goals as goal
+
+pub returns : goal.returns
+returns c = rw (← c.is_list-sent.ensures, ← c.is_list-listed.ensures, ← c.phase_at-phase.ensures) c.gate.ensures
