@@ -11,22 +11,15 @@ dscan_sound-requires c = sym c.is_sound.ensures ∙ c.if-is_sound.true
 
 pub returns-then-is_sound : goal.returns-then-is_sound
 returns-then-is_sound c =
-    let all = (c.dscan_sound.ensures) in
     record {
-      value = all.0;
-      session_value = all.1.0;
-      table_after = all.1.1.0;
-      list_after = all.1.1.1;
+      value = c.dscan_sound.ensures.value;
+      session_value = c.dscan_sound.ensures.session_value;
+      table_after = c.dscan_sound.ensures.table_after;
+      list_after = c.dscan_sound.ensures.list_after;
     }
 
 pub returns : goal.returns
 returns c =
-    let all = (let a = c.args in
-    rw (host-refused (Dscan a.first a.count a.budget) (lent_list a.session.now a.table.now a.list.now) refl
-    (sym c.is_sound.ensures ∙ c.if-is_sound.false)) (c.code_alone.ensures, (refl, (refl, refl)))) in
-    record {
-      value = all.0;
-      session_value = all.1.0;
-      table_after = all.1.1.0;
-      list_after = all.1.1.1;
-    }
+    let a = c.args in
+    let e = host-refused (Dscan a.first a.count a.budget) (lent_list a.session.now a.table.now a.list.now) refl (sym c.is_sound.ensures ∙ c.if-is_sound.false) in
+    record { value = rw e c.code_alone.ensures; session_value = rw e; table_after = rw e; list_after = rw e }
