@@ -1,6 +1,7 @@
 // What the functions for C hosts do with the bytes that they are lent, of the calls that take a list. Entries and pages are taken where they lie.
 
 #![tactic(auto)]
+
 ghost use Rattle.std.specs.Prelude.{◌≡◌, not, [], ◌∷◌, ◌*◌, length};
 ghost use Rattle.words.specs.Codes as codes;
 ghost use Rattle.refusals.specs.Refusals.{◌gives◌, first_of};

@@ -1,5 +1,4 @@
 -- The definition's fields, each read in its place.
-use borrow.Author.Rules.{rules}
 use Rattle.entry.specs.Entry.{ground_of}
 use Rattle.host_lists.proofs.ground_at.Goals as goal
 

@@ -1,5 +1,4 @@
 -- The gate of the phase that is read, and of what is a list.
-use borrow.Author.Rules.{rules}
 use Rattle.host_lists.proofs.exports.gate_at.Goals as goal
 
 pub returns : goal.returns

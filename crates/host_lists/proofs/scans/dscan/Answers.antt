@@ -1,5 +1,4 @@
 -- Past 40 by the function for that, and else 40.
-use borrow.Author.Rules.{rules}
 use mathlib.Core.Path.{refl, sym, ◌∙◌}
 use Rattle.calls.specs.declared.Call.TheVariants.{Dscan}
 use Rattle.host.specs.Host.{lent_list}

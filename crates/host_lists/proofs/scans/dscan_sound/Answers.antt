@@ -56,16 +56,16 @@ returns-then-code-ne-DONE c =
     let a = c.args in
     let h : Sound a.session.now (length a.table.now) = sound-means _ _ c.requires in
     let coded : c.dscan_code-code.result ≡ behind (gate_for (Live ∷ []) (lent_list a.session.now a.table.now a.list.now))
-        (dscan_tests (session_of (words_of a.session.now)) (length (words_of a.list.now)) a.first a.count) =
-      rw (
-        list-words a.session.now a.table.now a.list.now,
-        words-length a.list.now,
-        ← c.is_list.ensures,
-        ← c.phase_at-phase.ensures,
-        ← c.gate-gate.ensures,
-        ← c.pages_at-pages.ensures,
-      )
-      c.dscan_code-code.ensures in
+    (dscan_tests (session_of (words_of a.session.now)) (length (words_of a.list.now)) a.first a.count) =
+    rw (
+      list-words a.session.now a.table.now a.list.now,
+      words-length a.list.now,
+      ← c.is_list.ensures,
+      ← c.phase_at-phase.ensures,
+      ← c.gate-gate.ensures,
+      ← c.pages_at-pages.ensures,
+    )
+    c.dscan_code-code.ensures in
     let e = refuses a.session.now a.table.now a.list.now a.first a.count a.budget c.dscan_code-code.result h coded c.if-code-ne-DONE.true in
     record { value = rw e c.code_alone.ensures; session_value = rw e; table_after = rw e; list_after = rw e }
 
@@ -75,16 +75,16 @@ scan_range-got-requires c =
     let a = c.args in
     let h : Sound a.session.now (length a.table.now) = sound-means _ _ c.requires in
     let coded : c.dscan_code-code.result ≡ behind (gate_for (Live ∷ []) (lent_list a.session.now a.table.now a.list.now))
-        (dscan_tests (session_of (words_of a.session.now)) (length (words_of a.list.now)) a.first a.count) =
-      rw (
-        list-words a.session.now a.table.now a.list.now,
-        words-length a.list.now,
-        ← c.is_list.ensures,
-        ← c.phase_at-phase.ensures,
-        ← c.gate-gate.ensures,
-        ← c.pages_at-pages.ensures,
-      )
-      c.dscan_code-code.ensures in
+    (dscan_tests (session_of (words_of a.session.now)) (length (words_of a.list.now)) a.first a.count) =
+    rw (
+      list-words a.session.now a.table.now a.list.now,
+      words-length a.list.now,
+      ← c.is_list.ensures,
+      ← c.phase_at-phase.ensures,
+      ← c.gate-gate.ensures,
+      ← c.pages_at-pages.ensures,
+    )
+    c.dscan_code-code.ensures in
     let p = passes a.session.now a.table.now a.list.now a.first a.count a.budget c.dscan_code-code.result h coded c.if-code-ne-DONE.false in
     let table = table-whole _ h.table in
     let fits = dscan-fits (session_of (words_of a.session.now)) (length (words_of a.table.now)) (length (words_of a.list.now)) a.first a.count p.1 in
@@ -98,16 +98,16 @@ returns c =
     let a = c.args in
     let h : Sound a.session.now (length a.table.now) = sound-means _ _ c.requires in
     let coded : c.dscan_code-code.result ≡ behind (gate_for (Live ∷ []) (lent_list a.session.now a.table.now a.list.now))
-        (dscan_tests (session_of (words_of a.session.now)) (length (words_of a.list.now)) a.first a.count) =
-      rw (
-        list-words a.session.now a.table.now a.list.now,
-        words-length a.list.now,
-        ← c.is_list.ensures,
-        ← c.phase_at-phase.ensures,
-        ← c.gate-gate.ensures,
-        ← c.pages_at-pages.ensures,
-      )
-      c.dscan_code-code.ensures in
+    (dscan_tests (session_of (words_of a.session.now)) (length (words_of a.list.now)) a.first a.count) =
+    rw (
+      list-words a.session.now a.table.now a.list.now,
+      words-length a.list.now,
+      ← c.is_list.ensures,
+      ← c.phase_at-phase.ensures,
+      ← c.gate-gate.ensures,
+      ← c.pages_at-pages.ensures,
+    )
+    c.dscan_code-code.ensures in
     let p = passes a.session.now a.table.now a.list.now a.first a.count a.budget c.dscan_code-code.result h coded c.if-code-ne-DONE.false in
     let x : (i : ℕ) → Fits w8 (get_or a.session.now i 0) = search rules in
     let ran = dscan-ran a.session.now a.table.now a.list.now (λ i. (x i).fits) h a.first a.count a.budget p.0 p.1 in

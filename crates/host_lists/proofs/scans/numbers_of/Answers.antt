@@ -1,5 +1,4 @@
 -- The definition, with the entries that the function gives.
-use borrow.Author.Rules.{rules}
 use Rattle.host_lists.proofs.scans.numbers_of.Goals as goal
 
 pub returns : goal.returns
