@@ -2,6 +2,7 @@
 // under the same names.
 
 #![tactic(auto)]
+
 ghost use Rattle.std.specs.Prelude.{◌≡◌};
 ghost use Rattle.host.specs.Host.{Left};
 ghost use Rattle.chirpsteeple.specs.Functions.{new_left, write_left, add_left, accept_left, block_left, unblock_left, remove_left};
