@@ -91,14 +91,14 @@ cut-few size (suc n) (suc k) l h =
 -- ---- cut anew
 
 pub anew-short : (ls : List (List ℕ)) (m : List ℕ) → Memᴰ m (cut_anew ls) → Short m
-anew-short ls m = cut_short most_entries (length (joined ls)) (joined ls) m (omega arith)
+anew-short ls m k = search (arith, cut_short)
 
 pub anew-few : (k : ℕ) (ls : List (List ℕ)) → length (joined ls) ≤ k * most_entries → length (cut_anew ls) ≤ k
-anew-few k ls h = cut-few most_entries (length (joined ls)) k (joined ls) (omega arith)
+anew-few k ls h = search (arith, cut-few)
 
 pub anew-listed : (ls : List (List ℕ)) (i : ℕ) → Listed ls i → Listed (cut_anew ls) i
 anew-listed ls i x =
     let word = x.2.0 in
-    let kept : joined (cut_anew ls) ≡ joined ls = cut-joined most_entries (length (joined ls)) (joined ls) (omega arith) (omega arith) in
+    let kept : joined (cut_anew ls) ≡ joined ls = search (arith, cut-joined) in
     let at = of-joined (cut_anew ls) word (rw kept (to-joined ls x.0 word x.1 x.2.1)) in
     (at.0, at.1, (word, at.2, x.2.2))
