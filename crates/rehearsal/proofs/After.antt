@@ -24,7 +24,7 @@ use Rattle.host.specs.Host.{Left, refused, numbers_of}
 use Rattle.host.specs.declared.answers.Numbers.{Numbers}
 use Rattle.rehearsal.specs.Small.{WordsIn}
 use Rattle.rehearsal.specs.Rehearsal.{Function, new, write, add, accept, block, unblock, remove, track, start, pause, abort, new_epoch, reset, start_token}
-use Rattle.rehearsal.specs.Rehearsal.{dscan, dcheck, export, restore, Operands, call_of, accepted, epoch_word, logged_by, Host, left_in, after, run, AllOperands}
+use Rattle.rehearsal.specs.Rehearsal.{dscan, dcheck, export, restore, Operands, call_of, epoch_word, logged_by, Host, left_in, after, run, AllOperands}
 use Rattle.rehearsal.specs.Promises.{is_played, given_by, played_by, own42, Answers}
 use Rattle.rehearsal.proofs.Small.{words-out}
 use Rattle.rehearsal.proofs.Gate.{formed-other}
