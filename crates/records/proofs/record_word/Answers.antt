@@ -1,5 +1,4 @@
--- Each number is masked, shifted to its place and joined to those below it; a byte and a flag need no mask. `start` is the entry of the function, before its
--- fields are read.
+-- Each number is masked, shifted to its place and joined to those below it; a byte and a flag need no mask.
 use mathlib.Core.Path.{ap, ap₂, ◌∙◌}
 use Prim.Native.Nat.{ℕ}
 use lib.ListN.{set}
