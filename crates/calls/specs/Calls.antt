@@ -1,18 +1,13 @@
 -- Every call and all that it leaves: the one place from which what holds of all calls is said.
 use Rattle.std.specs.Prelude.{List, ℕ}
-use Rattle.session.specs.Outcome.{Outcome}
+use Rattle.session.specs.Outcome.{Outcome, Answer}
 use Rattle.session.specs.declared.Session.{Session}
-use Rattle.session.specs.declared.Answer.{Answer}
 use Rattle.memory.specs.Memory.{new_out, on_page}
 use Rattle.migration.specs.Migration.{on_all, on_session}
-use Rattle.migration.specs.Token.{token_says, token_out}
-use Rattle.migration.specs.declared.token.TokenAnswer.{TokenAnswer}
-use Rattle.scan.specs.Scan.{ScanOutcome, dscan_out, dcheck_out}
-use Rattle.scan.specs.declared.ScanAnswer.{ScanAnswer}
-use Rattle.export.specs.Export.{ExportOutcome, export_out}
-use Rattle.export.specs.declared.ExportAnswer.{ExportAnswer}
-use Rattle.restore.specs.Restore.{RestoreOutcome, restore_out}
-use Rattle.restore.specs.declared.ListAnswer.{ListAnswer}
+use Rattle.migration.specs.Token.{TokenAnswer, token_says, token_out}
+use Rattle.scan.specs.Scan.{ScanAnswer, ScanOutcome, dscan_out, dcheck_out}
+use Rattle.export.specs.Export.{ExportAnswer, ExportOutcome, export_out}
+use Rattle.restore.specs.Restore.{ListAnswer, RestoreOutcome, restore_out}
 use Rattle.calls.specs.declared.Call.{Call}
 use Rattle.calls.specs.declared.Call.TheVariants.{New, OnPage, OnAll, OnSession, StartToken, Dscan, Dcheck, Export, Restore}
 use Rattle.calls.specs.declared.Returned.{Returned}

@@ -2,16 +2,23 @@
 
 #![tactic(auto)]
 
-ghost use Rattle.std.specs.Prelude.{◌≡◌, []};
-ghost use Rattle.calls.specs.Calls.{without_numbers, scan_numbers, export_numbers, list_numbers, effect_of};
+ghost use Rattle.std.specs.Prelude.{◌≡◌, Err};
+ghost use Rattle.session.specs.Outcome.{answer_of};
+ghost use Rattle.migration.specs.Token.{token_answer_of};
+ghost use Rattle.scan.specs.Scan.{scan_answer_of};
+ghost use Rattle.export.specs.Export.{export_answer_of};
+ghost use Rattle.restore.specs.Restore.{list_answer_of};
+ghost use Rattle.calls.specs.Calls.{without_numbers, token_numbers, scan_numbers, export_numbers, list_numbers, effect_of};
 
 use export::ExportAnswer;
+use migration::token::Obstacle;
 use migration::{Alone, token};
 use page::moves::Move;
 use page::sweeps::Sweep;
+use refusals::{Refusal, code_of};
 use restore::ListAnswer;
 use scan::ScanAnswer;
-use session::{Answer, Session};
+use session::Session;
 
 #[derive(Clone, Copy)]
 pub enum Call {
@@ -70,12 +77,12 @@ pub struct Returned {
     pub session: Session,
 }
 
-fn without_numbers(a: Answer) -> Returned
-    ensures { result ≡ without_numbers a }
+// A code and a session, and no other number.
+fn code_alone(code: u64, session: Session) -> Returned
+    ensures { result ≡ without_numbers (record { code = code; session = session }) }
 {
-    let session = a.session;
     Returned {
-        code: a.code,
+        code,
         page: 0, // for 53 and 54 alone
         next: 0,
         first: 0,
@@ -87,75 +94,71 @@ fn without_numbers(a: Answer) -> Returned
     }
 }
 
-fn scan_numbers(a: ScanAnswer) -> Returned
-    ensures { result ≡ scan_numbers a }
+fn refused(refusal: Refusal, s: Session) -> Returned
+    ensures { result ≡ without_numbers (answer_of s (Err refusal)) }
 {
-    let session = a.session;
-    Returned {
-        code: a.code,
-        page: 0,
-        next: a.next,
-        first: a.first,
-        last: a.last,
-        info: 0,
-        errors: 0,
-        buffers: 0,
-        session,
+    code_alone(u64::from(refusal), s)
+}
+
+// `s` is the session that came, which a refusal brings back.
+fn without_numbers(s: Session, outcome: Result<Session, Refusal>) -> Returned
+    ensures { result ≡ without_numbers (answer_of s outcome) }
+{
+    match outcome {
+        Ok(session) => code_alone(0, session),
+        Err(refusal) => refused(refusal, s),
     }
 }
 
-fn export_numbers(a: ExportAnswer) -> Returned
-    ensures { result ≡ export_numbers a }
+fn token_numbers(s: Session, outcome: Result<Session, Obstacle>) -> Returned
+    ensures { result ≡ token_numbers (token_answer_of s outcome) }
 {
-    let session = a.session;
-    Returned {
-        code: a.code,
-        page: 0,
-        next: 0,
-        first: 0,
-        last: 0,
-        info: a.info,
-        errors: a.errors,
-        buffers: a.buffers,
-        session,
+    match outcome {
+        Ok(session) => code_alone(0, session),
+        Err(o) => Returned {
+            page: o.page.unwrap_or(0),
+            ..refused(o.refusal, s)
+        },
     }
 }
 
-fn list_numbers(a: ListAnswer) -> Returned
-    ensures { result ≡ list_numbers a }
+fn scan_numbers(s: Session, outcome: Result<ScanAnswer, Refusal>) -> Returned
+    ensures { result ≡ scan_numbers (scan_answer_of s outcome) }
 {
-    let session = a.session;
-    Returned {
-        code: a.code,
-        page: 0,
-        next: 0,
-        first: 0,
-        last: 0,
-        info: a.info,
-        errors: 0,
-        buffers: 0,
-        session,
+    match outcome {
+        Ok(a) => Returned {
+            next: a.next,
+            first: a.first,
+            last: a.last,
+            ..code_alone(u64::from(a.ending), a.session)
+        },
+        Err(refusal) => refused(refusal, s),
     }
 }
 
-fn start_token(s: Session, table: &[u64]) -> Returned
-    ensures { result ≡ (effect_of Call.StartToken s table.now [] []).returned }
+fn export_numbers(s: Session, outcome: Result<ExportAnswer, Refusal>) -> Returned
+    ensures { result ≡ export_numbers (export_answer_of s outcome) }
 {
-    let answer = token::start_token(s, table);
-    let token = answer.token;
-    let session = answer.session;
-    let code = token::number_of(token);
-    let page = token::page_of(token);
-    Returned {
-        code,
-        page,
-        next: 0,
-        first: 0,
-        last: 0,
-        info: 0,
-        errors: 0,
-        buffers: 0,
-        session,
+    match outcome {
+        Ok(a) => Returned {
+            info: a.info,
+            errors: a.errors,
+            buffers: a.buffers,
+            ..code_alone(u64::from(a.ending), a.session)
+        },
+        Err(refusal) => refused(refusal, s),
+    }
+}
+
+fn list_numbers(s: Session, outcome: Result<ListAnswer, Refusal>) -> Returned
+    ensures { result ≡ list_numbers (list_answer_of s outcome) }
+{
+    match outcome {
+        Ok(a) => Returned {
+            info: a.info,
+            ..code_alone(u64::from(a.ending), a.session)
+        },
+        Err(refusal) => refused(refusal, s),
     }
 }
 
@@ -173,25 +176,34 @@ pub fn perform(
     ensures buffer_after { buffer.new ≡ (effect_of call s table.old list.old buffer.old).buffer }
 {
     match call {
-        Call::New { created } => without_numbers(memory::new(s, table, created)),
-        Call::OnPage { page, made } => without_numbers(memory::on_page(made, s, table, page)),
-        Call::OnAll { sweep } => without_numbers(migration::on_all(sweep, s, table)),
-        Call::OnSession { alone } => without_numbers(migration::on_session(alone, s, table.len())),
-        Call::StartToken => start_token(s, &table[..]),
+        Call::New { created } => without_numbers(s, memory::new(s, table, created)),
+        Call::OnPage { page, made } => code_alone(
+            code_of(memory::on_page(made, s, table, page)),
+            s,
+        ),
+        Call::OnAll { sweep } => without_numbers(s, migration::on_all(sweep, s, table)),
+        Call::OnSession { alone } => without_numbers(
+            s,
+            migration::on_session(alone, s, table.len()),
+        ),
+        Call::StartToken => token_numbers(s, token::start_token(s, &table[..])),
         Call::Dscan {
             first,
             count,
             budget,
-        } => scan_numbers(scan::dscan(s, table, list, first, count, budget)),
-        Call::Dcheck { budget } => scan_numbers(scan::dcheck(s, table, list, budget)),
+        } => scan_numbers(s, scan::dscan(s, table, list, first, count, budget)),
+        Call::Dcheck { budget } => scan_numbers(s, scan::dcheck(s, table, list, budget)),
         Call::Export {
             stream,
             resume,
             info,
             budget,
-        } => export_numbers(export::export(s, table, list, buffer, stream, resume, info, budget)),
+        } => export_numbers(
+            s,
+            export::export(s, table, list, buffer, stream, resume, info, budget),
+        ),
         Call::Restore { info, budget } => {
-            list_numbers(restore::restore(s, table, list, info, budget))
+            list_numbers(s, restore::restore(s, table, list, info, budget))
         }
     }
 }

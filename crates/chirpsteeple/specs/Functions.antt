@@ -4,8 +4,7 @@ use Rattle.page.specs.declared.moves.Move.TheVariants.{Write, Add, Accept, Block
 use Rattle.page.specs.declared.sweeps.Sweep.TheVariants.{Track, Start, Pause}
 use Rattle.migration.specs.declared.Alone.TheVariants.{NewEpoch, Reset, Abort}
 use Rattle.calls.specs.declared.Call.TheVariants.{New, OnPage, OnAll, OnSession, StartToken, Dscan, Dcheck, Export, Restore}
-use Rattle.host.specs.Host.{lent_all, lent_list, lent, Left, host_of}
-use Rattle.host.specs.declared.answers.Numbers.{Numbers}
+use Rattle.host.specs.Host.{Numbers, lent_all, lent_list, lent, Left, host_of}
 use Rattle.chirpsteeple.specs.declared.ChirpTokenAnswer.{ChirpTokenAnswer}
 use Rattle.chirpsteeple.specs.declared.ChirpScanAnswer.{ChirpScanAnswer}
 use Rattle.chirpsteeple.specs.declared.ChirpExportAnswer.{ChirpExportAnswer}

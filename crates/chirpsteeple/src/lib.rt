@@ -4,17 +4,20 @@
 #![tactic(auto)]
 
 ghost use Rattle.std.specs.Prelude.{◌≡◌};
-ghost use Rattle.host.specs.Host.{Left};
+ghost use Rattle.host.specs.Host.{Left, token_numbers};
+ghost use Rattle.host_lists.specs.Inside.{scan_numbers, export_numbers, restore_numbers};
 ghost use Rattle.chirpsteeple.specs.Functions.{new_left, write_left, add_left, accept_left, block_left, unblock_left, remove_left};
 ghost use Rattle.chirpsteeple.specs.Functions.{track_left, start_left, pause_left, new_epoch_left, reset_left, abort_left};
 ghost use Rattle.chirpsteeple.specs.Functions.{token_left, dscan_left, dcheck_left, export_left, restore_left, token_to_c, scan_to_c, export_to_c, list_to_c};
 
-use host::answers::Numbers;
 use host::{pages, sweeps, tables};
 use host_lists::{exports, restores, scans};
 use migration::Alone;
+use migration::token::Obstacle;
 use page::moves::Move;
 use page::sweeps::Sweep;
+use refusals::{Refusal, code_of};
+use scan::Scanned;
 
 // What the start token answers; the page is that in the way of 53 and 54.
 #[repr(C)]
@@ -57,7 +60,7 @@ pub fn chirp_new(session: &mut [u8], table: &mut [u8], streams: u64) -> u64
     ensures session_after { session.new ≡ (new_left session.old table.old streams).session }
     ensures table_after { table.new ≡ (new_left session.old table.old streams).table }
 {
-    sweeps::new(session, table, streams)
+    code_of(sweeps::new(session, table, streams))
 }
 
 pub fn chirp_write(session: &[u8], table: &mut [u8], page: u64, mark: u64) -> u64
@@ -65,7 +68,7 @@ pub fn chirp_write(session: &[u8], table: &mut [u8], page: u64, mark: u64) -> u6
     ensures session_value { session.now ≡ (write_left session.now table.old page mark).session }
     ensures table_after { table.new ≡ (write_left session.now table.old page mark).table }
 {
-    pages::on_page(Move::Write { mark }, session, table, page)
+    code_of(pages::on_page(Move::Write { mark }, session, table, page))
 }
 
 pub fn chirp_add(session: &[u8], table: &mut [u8], page: u64) -> u64
@@ -73,7 +76,7 @@ pub fn chirp_add(session: &[u8], table: &mut [u8], page: u64) -> u64
     ensures session_value { session.now ≡ (add_left session.now table.old page).session }
     ensures table_after { table.new ≡ (add_left session.now table.old page).table }
 {
-    pages::on_page(Move::Add, session, table, page)
+    code_of(pages::on_page(Move::Add, session, table, page))
 }
 
 pub fn chirp_accept(session: &[u8], table: &mut [u8], page: u64) -> u64
@@ -81,7 +84,7 @@ pub fn chirp_accept(session: &[u8], table: &mut [u8], page: u64) -> u64
     ensures session_value { session.now ≡ (accept_left session.now table.old page).session }
     ensures table_after { table.new ≡ (accept_left session.now table.old page).table }
 {
-    pages::on_page(Move::Accept, session, table, page)
+    code_of(pages::on_page(Move::Accept, session, table, page))
 }
 
 pub fn chirp_block(session: &[u8], table: &mut [u8], page: u64) -> u64
@@ -89,7 +92,7 @@ pub fn chirp_block(session: &[u8], table: &mut [u8], page: u64) -> u64
     ensures session_value { session.now ≡ (block_left session.now table.old page).session }
     ensures table_after { table.new ≡ (block_left session.now table.old page).table }
 {
-    pages::on_page(Move::Block, session, table, page)
+    code_of(pages::on_page(Move::Block, session, table, page))
 }
 
 pub fn chirp_unblock(session: &[u8], table: &mut [u8], page: u64) -> u64
@@ -97,7 +100,7 @@ pub fn chirp_unblock(session: &[u8], table: &mut [u8], page: u64) -> u64
     ensures session_value { session.now ≡ (unblock_left session.now table.old page).session }
     ensures table_after { table.new ≡ (unblock_left session.now table.old page).table }
 {
-    pages::on_page(Move::Unblock, session, table, page)
+    code_of(pages::on_page(Move::Unblock, session, table, page))
 }
 
 pub fn chirp_remove(session: &[u8], table: &mut [u8], page: u64) -> u64
@@ -105,7 +108,7 @@ pub fn chirp_remove(session: &[u8], table: &mut [u8], page: u64) -> u64
     ensures session_value { session.now ≡ (remove_left session.now table.old page).session }
     ensures table_after { table.new ≡ (remove_left session.now table.old page).table }
 {
-    pages::on_page(Move::Remove, session, table, page)
+    code_of(pages::on_page(Move::Remove, session, table, page))
 }
 
 pub fn chirp_track(session: &mut [u8], table: &mut [u8]) -> u64
@@ -113,7 +116,7 @@ pub fn chirp_track(session: &mut [u8], table: &mut [u8]) -> u64
     ensures session_after { session.new ≡ (track_left session.old table.old).session }
     ensures table_after { table.new ≡ (track_left session.old table.old).table }
 {
-    sweeps::on_all(Sweep::Track, session, table)
+    code_of(sweeps::on_all(Sweep::Track, session, table))
 }
 
 // ---- the session calls
@@ -123,7 +126,7 @@ pub fn chirp_start(session: &mut [u8], table: &mut [u8]) -> u64
     ensures session_after { session.new ≡ (start_left session.old table.old).session }
     ensures table_after { table.new ≡ (start_left session.old table.old).table }
 {
-    sweeps::on_all(Sweep::Start, session, table)
+    code_of(sweeps::on_all(Sweep::Start, session, table))
 }
 
 pub fn chirp_pause(session: &mut [u8], table: &mut [u8]) -> u64
@@ -131,7 +134,7 @@ pub fn chirp_pause(session: &mut [u8], table: &mut [u8]) -> u64
     ensures session_after { session.new ≡ (pause_left session.old table.old).session }
     ensures table_after { table.new ≡ (pause_left session.old table.old).table }
 {
-    sweeps::on_all(Sweep::Pause, session, table)
+    code_of(sweeps::on_all(Sweep::Pause, session, table))
 }
 
 pub fn chirp_new_epoch(session: &mut [u8], table: &[u8]) -> u64
@@ -139,7 +142,7 @@ pub fn chirp_new_epoch(session: &mut [u8], table: &[u8]) -> u64
     ensures session_after { session.new ≡ (new_epoch_left session.old table.now).session }
     ensures table_value { table.now ≡ (new_epoch_left session.old table.now).table }
 {
-    tables::on_session(Alone::NewEpoch, session, table)
+    code_of(tables::on_session(Alone::NewEpoch, session, table))
 }
 
 pub fn chirp_reset(session: &mut [u8], table: &[u8]) -> u64
@@ -147,7 +150,7 @@ pub fn chirp_reset(session: &mut [u8], table: &[u8]) -> u64
     ensures session_after { session.new ≡ (reset_left session.old table.now).session }
     ensures table_value { table.now ≡ (reset_left session.old table.now).table }
 {
-    tables::on_session(Alone::Reset, session, table)
+    code_of(tables::on_session(Alone::Reset, session, table))
 }
 
 pub fn chirp_abort(session: &mut [u8], table: &[u8]) -> u64
@@ -155,7 +158,19 @@ pub fn chirp_abort(session: &mut [u8], table: &[u8]) -> u64
     ensures session_after { session.new ≡ (abort_left session.old table.now).session }
     ensures table_value { table.now ≡ (abort_left session.old table.now).table }
 {
-    tables::on_session(Alone::Abort, session, table)
+    code_of(tables::on_session(Alone::Abort, session, table))
+}
+
+fn token_answer(outcome: Result<(), Obstacle>) -> ChirpTokenAnswer
+    ensures { result ≡ token_to_c (token_numbers outcome) }
+{
+    match outcome {
+        Ok(()) => ChirpTokenAnswer { code: 0, page: 0 },
+        Err(o) => ChirpTokenAnswer {
+            code: u64::from(o.refusal),
+            page: o.page.unwrap_or(0) as u64,
+        },
+    }
 }
 
 pub fn chirp_start_token(session: &mut [u8], table: &[u8]) -> ChirpTokenAnswer
@@ -163,23 +178,64 @@ pub fn chirp_start_token(session: &mut [u8], table: &[u8]) -> ChirpTokenAnswer
     ensures session_after { session.new ≡ (token_left session.old table.now).session }
     ensures table_value { table.now ≡ (token_left session.old table.now).table }
 {
-    let n = tables::start_token(session, table);
-    ChirpTokenAnswer {
-        code: n.code,
-        page: n.page,
-    }
+    token_answer(tables::start_token(session, table))
 }
 
 // ---- scans, export and RESTORE
 
-fn scan_answer(n: Numbers) -> ChirpScanAnswer
-    ensures { result ≡ scan_to_c n }
+fn scan_answer(outcome: Result<Scanned, Refusal>) -> ChirpScanAnswer
+    ensures { result ≡ scan_to_c (scan_numbers outcome) }
 {
-    ChirpScanAnswer {
-        code: n.code,
-        next: n.next,
-        first: n.first,
-        last: n.last,
+    match outcome {
+        Ok(got) => {
+            let w = scan::written_of(got.put);
+            ChirpScanAnswer {
+                code: u64::from(got.ending),
+                next: got.next as u64,
+                first: w.first,
+                last: w.last,
+            }
+        }
+        Err(refusal) => ChirpScanAnswer {
+            code: u64::from(refusal),
+            next: 0,
+            first: 0,
+            last: 0,
+        },
+    }
+}
+
+fn export_answer(outcome: Result<export::Ended, Refusal>) -> ChirpExportAnswer
+    ensures { result ≡ export_to_c (export_numbers outcome) }
+{
+    match outcome {
+        Ok(e) => ChirpExportAnswer {
+            code: u64::from(e.ending),
+            info: e.info,
+            errors: e.errors,
+            buffers: e.buffers,
+        },
+        Err(refusal) => ChirpExportAnswer {
+            code: u64::from(refusal),
+            info: 0,
+            errors: 0,
+            buffers: 0,
+        },
+    }
+}
+
+fn list_answer(outcome: Result<restore::Ended, Refusal>) -> ChirpListAnswer
+    ensures { result ≡ list_to_c (restore_numbers outcome) }
+{
+    match outcome {
+        Ok(e) => ChirpListAnswer {
+            code: u64::from(e.ending),
+            info: e.info,
+        },
+        Err(refusal) => ChirpListAnswer {
+            code: u64::from(refusal),
+            info: 0,
+        },
     }
 }
 
@@ -241,13 +297,7 @@ pub fn chirp_export(
     ensures buffer_after { buffer.new ≡ (export_left session.old table.old list.old
         buffer.old stream resume info budget).buffer }
 {
-    let n = exports::export(session, table, list, buffer, stream, resume, info, budget);
-    ChirpExportAnswer {
-        code: n.code,
-        info: n.info,
-        errors: n.errors,
-        buffers: n.buffers,
-    }
+    export_answer(exports::export(session, table, list, buffer, stream, resume, info, budget))
 }
 
 pub fn chirp_restore(
@@ -262,9 +312,5 @@ pub fn chirp_restore(
     ensures table_after { table.new ≡ (restore_left session.now table.old list.old info budget).table }
     ensures list_after { list.new ≡ (restore_left session.now table.old list.old info budget).list }
 {
-    let n = restores::restore(session, table, list, info, budget);
-    ChirpListAnswer {
-        code: n.code,
-        info: n.info,
-    }
+    list_answer(restores::restore(session, table, list, info, budget))
 }

@@ -6,7 +6,11 @@ use lib.Dec.{eqb}
 use borrow.Author.Tests.{eqb-true, eq-eqb, ne_eqb}
 use Rattle.words.specs.Entry.{entry_of}
 use Rattle.words.specs.Operations as operations
+use Rattle.words.specs.Statuses as statuses
+use Rattle.words.specs.Statuses.{failure_number}
 use Rattle.words.specs.declared.entries.Entry.{Entry}
+use Rattle.words.specs.declared.statuses.Failure.{Failure}
+use Rattle.words.specs.declared.statuses.Failure.TheVariants as failure
 use Rattle.refusals.proofs.Laws.{either, passed, and_left, and_right, not-true}
 use Rattle.states.specs.States.{State, state_of, is_strange, is_in, has_move, number_in}
 use Rattle.states.specs.Lists.{sent_states, barred_states, cancelled_states, exports, operated}
@@ -17,6 +21,16 @@ use Rattle.page.proofs.Laws.{Held, read_held, words-stay, page_moved}
 use Rattle.entry.specs.Entry.{unexportable, cancelled, status_tests, status_of, exported_page, sent_entry, failed_entry, taken_of}
 use Rattle.entry.specs.declared.Ground.{Ground}
 use Rattle.entry.specs.declared.Taken.{Taken}
+
+-- no failure has status 0
+pub failure-pos : (f : Failure) → eqb (failure_number f) statuses.success ≡ false
+failure-pos failure.Skipped = refl
+failure-pos failure.SeptWalkFailed = refl
+failure-pos failure.SeptEntryStateIncorrect = refl
+failure-pos failure.TlbTrackingNotDone = refl
+failure-pos failure.MigratedInCurrentEpoch = refl
+failure-pos failure.GpaListEntryInvalid = refl
+failure-pos failure.PageDirty = refl
 
 -- what is told of an entry is its status
 pub taken-status : (word : ℕ) (w : PageWords) (g : Ground) → (taken_of word w g).status ≡ status_of (entry_of word) (page_of w) g

@@ -19,10 +19,13 @@ use Rattle.entry.specs.declared.Taken.{Taken}
 unfoldable pub ground_of : Session → Ground
 ground_of s = record { phase = s.phase; clock = s.clock; epoch = s.epoch; pages = s.fixed.pages }
 
+-- reserved bits, LEVEL and MIG_TYPE 0
+abbrev pub plain : Entry → Bool
+plain e = eqb e.reserved5 0 && eqb e.reserved54 0 && eqb e.reserved61 0 && eqb e.level 0 && eqb e.mig_type 0
+
 -- reserved bits, LEVEL or MIG_TYPE not 0, or OPERATION 2 or 3
 unfoldable pub invalid : Entry → Bool
-invalid e =
-    not (eqb e.reserved5 0 && eqb e.reserved54 0 && eqb e.reserved61 0 && eqb e.level 0 && eqb e.mig_type 0 && ltb e.operation 2)
+invalid e = not (plain e && ltb e.operation 2)
 
 -- strange, 0, 1, 3, or 24 or 29 without Dirty
 unfoldable pub unexportable : Page → Bool

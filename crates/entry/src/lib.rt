@@ -3,15 +3,18 @@
 #![tactic(auto)]
 
 ghost use Rattle.std.specs.Prelude.{◌≡◌, cond, false};
+ghost use Rattle.words.specs.Statuses.{failure_number, status_number};
 ghost use Rattle.states.specs.States.{number_of, goes_by};
 ghost use Rattle.states.specs.Lists.{exports};
 ghost use Rattle.page.specs.Page.{page_of, strange, words_for, on_words};
-ghost use Rattle.entry.specs.Entry.{ground_of, invalid, unexportable, status_of, answer_word, exported_page, sent_entry, failed_entry, taken_of};
+ghost use Rattle.entry.specs.Entry.{ground_of, plain, invalid, unexportable, status_of, answer_word, exported_page, sent_entry, failed_entry, taken_of};
 
 use page::{Clock, PageWords, queries};
+use records::Record;
 use session::{Phase, Session};
 use words::entries::Entry;
-use words::{entries, operations, statuses};
+use words::statuses::Failure;
+use words::{operations, statuses};
 
 // What an export is made against.
 #[derive(Clone, Copy)]
@@ -39,6 +42,7 @@ pub fn ground_of(s: Session) -> Ground
 
 #[derive(Clone, Copy)]
 pub struct Taken {
+    // A number, as `Promises::entry` and `failed` of `calls` have it.
     pub status: u64,
     // The entry as it comes back.
     pub word: u64,
@@ -49,16 +53,22 @@ pub struct Taken {
     pub contents: bool,
 }
 
-// A form that no entry may have.
-fn is_invalid(e: Entry) -> bool
-    ensures { result ≡ invalid e }
+// Reserved bits, LEVEL and MIG_TYPE are 0, as in every entry that a call takes.
+pub fn is_plain(e: Entry) -> bool
+    ensures { result ≡ plain e }
 {
-    !((e.reserved5 == 0)
+    (e.reserved5 == 0)
         & (e.reserved54 == 0)
         & (e.reserved61 == 0)
         & (e.level == 0)
         & (e.mig_type == 0)
-        & (e.operation < 2))
+}
+
+// A form that no entry of an export may have.
+fn is_invalid(e: Entry) -> bool
+    ensures { result ≡ invalid e }
+{
+    !(is_plain(e) & (e.operation < 2))
 }
 
 // Its state bars it: status 4.
@@ -66,55 +76,52 @@ fn is_unexportable(w: PageWords) -> bool
     ensures { result ≡ unexportable (page_of w) }
 {
     let n = page::state_of(w);
-    let p = records::record_of(w.word);
+    let p = Record::from(w.word);
     states::is_strange(n) | states::is_barred(n) | (states::is_sent(n) & !p.dirty)
 }
 
-// The first test that holds gives the status.
-fn status_of(e: Entry, w: PageWords, g: Ground) -> u64
-    ensures { result ≡ status_of e (page_of w) g }
+// Why an entry is not taken: the first test that holds.
+fn allow_entry(e: Entry, w: PageWords, g: Ground) -> Result<(), Failure>
+    ensures { status_number result ≡ status_of e (page_of w) g }
 {
     let phase = g.phase;
-    let p = records::record_of(w.word);
+    let p = Record::from(w.word);
     let cancelled = states::is_cancelled(page::state_of(w));
     let comes = session::comes_in(phase);
     let tracked = queries::is_tracked(p.stamp, g.clock);
-    let invalid = is_invalid(e);
-    let skipped = e.operation == operations::NOP;
     let beyond = g.pages <= e.gpa;
-    let unexportable = is_unexportable(w);
     let again = p.migrated == g.epoch;
     let dirty = !cancelled & p.dirty;
     let early = !cancelled & comes.live & !tracked;
-    if invalid {
-        return statuses::GPA_LIST_ENTRY_INVALID;
+    if is_invalid(e) {
+        return Err(Failure::GpaListEntryInvalid);
     }
-    if skipped {
-        return statuses::SKIPPED;
+    if e.operation == operations::NOP {
+        return Err(Failure::Skipped);
     }
     if beyond {
-        return statuses::SEPT_WALK_FAILED;
+        return Err(Failure::SeptWalkFailed);
     }
-    if unexportable {
-        return statuses::SEPT_ENTRY_STATE_INCORRECT;
+    if is_unexportable(w) {
+        return Err(Failure::SeptEntryStateIncorrect);
     }
     if again {
-        return statuses::MIGRATED_IN_CURRENT_EPOCH;
+        return Err(Failure::MigratedInCurrentEpoch);
     }
     if dirty {
-        return statuses::PAGE_DIRTY;
+        return Err(Failure::PageDirty);
     }
     if early {
-        return statuses::TLB_TRACKING_NOT_DONE;
+        return Err(Failure::TlbTrackingNotDone);
     }
-    statuses::SUCCESS
+    Ok(())
 }
 
 // The entry as it comes back.
 fn answer_word(e: Entry, pending: bool, operation: u64, status: u64) -> u64
     ensures { result ≡ answer_word e pending operation status }
 {
-    entries::entry_word(Entry {
+    u64::from(Entry {
         level: e.level,
         pending,
         state: 0,
@@ -141,12 +148,7 @@ fn exported(w: PageWords, to: u8, epoch: u64) -> PageWords
 fn export_words(w: PageWords, epoch: u64) -> PageWords
     ensures { result ≡ on_words (exported_page epoch) w }
 {
-    let n = page::state_of(w);
-    let after = exported(w, states::export_of(n), epoch);
-    if states::is_strange(n) {
-        return w;
-    }
-    after
+    page::unless_strange(w, |n| exported(w, states::export_of(n), epoch))
 }
 
 // The mark for what is data, else 0.
@@ -175,9 +177,10 @@ fn succeed(e: Entry, w: PageWords, epoch: u64) -> Taken
     }
 }
 
-fn fail(e: Entry, w: PageWords, status: u64) -> Taken
-    ensures { result ≡ failed_entry e w status }
+fn fail(e: Entry, w: PageWords, failure: Failure) -> Taken
+    ensures { result ≡ failed_entry e w (failure_number failure) }
 {
+    let status = u64::from(failure);
     let word = answer_word(e, false, operations::NOP, status);
     Taken {
         status,
@@ -192,10 +195,9 @@ fn fail(e: Entry, w: PageWords, status: u64) -> Taken
 pub fn take_entry(word: u64, w: PageWords, g: Ground) -> Taken
     ensures { result ≡ taken_of word w g }
 {
-    let e = entries::entry_of(word);
-    let status = status_of(e, w, g);
-    if status == statuses::SUCCESS {
-        return succeed(e, w, g.epoch);
+    let e = Entry::from(word);
+    match allow_entry(e, w, g) {
+        Ok(()) => succeed(e, w, g.epoch),
+        Err(failure) => fail(e, w, failure),
     }
-    fail(e, w, status)
 }

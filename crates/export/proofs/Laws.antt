@@ -1,25 +1,30 @@
 -- What is known past an export's tests: the list is one, its entries that are left are ordered, and no count passes the next index.
 use mathlib.Core.Path.{◌≡◌, refl}
 use mathlib.Core.Bool.{Bool, true, false, cond, not, ◌&&◌, true≢false}
-use mathlib.Core.List.{[]}
+use mathlib.Core.List.{List, []}
 use lib.Dec.{eqb, leb}
 use Prim.Native.Nat.{ℕ, ◌+◌, ◌≤◌, ◌<◌}
 use native.Mathlib.Omega.{arith}
-use lib.ListN.{get_or}
+use lib.ListN.{length, get_or}
 use borrow.Author.Tests.{lt-ltb, ltb-true, eqb-true}
-use Rattle.refusals.proofs.Laws.{either, and_right, not-false}
+use Rattle.refusals.specs.Refusals.{first_of, number_of}
+use Rattle.refusals.specs.declared.Refusal.{Refusal}
+use Rattle.refusals.proofs.Laws.{either, and_right, not-false, number-pos}
 use Rattle.session.specs.Session.{among, moving, resting, stream_places, work_of}
 use Rattle.session.specs.Formed.{usable, last_entry, gated, behind}
 use Rattle.session.specs.declared.Session.{Session}
 use Rattle.session.specs.declared.streams.Work.{Work}
 use Rattle.session.specs.declared.streams.Work.TheVariants.{AtRest, Interrupted}
-use Rattle.session.proofs.Laws.{gate-first, gate-open}
+use Rattle.session.proofs.Laws.{gate-first, gate-refused, gate-passed, gate-open}
 use Rattle.session.proofs.FormedLaws.{WorkFormed, formed-means}
+use Rattle.words.specs.Info.{info_of}
 use Rattle.words.specs.declared.infos.Info.{Info}
+use Rattle.entry.specs.Entry.{ground_of}
+use Rattle.lists.specs.Run.{standing, list_run}
 use Rattle.lists.specs.List.{is_over}
 use Rattle.lists.specs.declared.runs.Progress.{Progress}
 use Rattle.lists.proofs.Laws.{Counts, list-passed}
-use Rattle.export.specs.Export.{no_resumption, no_new_call, export_tests, export_code, begun_by, mac_pages}
+use Rattle.export.specs.Export.{no_resumption, no_new_call, export_tests, export_code, export_step, begun_by, mac_pages, refused_export, ran_export, export_out}
 use Rattle.export.specs.Export.{done_end, interrupted_end, ended_by, ending, done_by, interrupted_by, finished_by}
 
 -- ---- numbers that fit
@@ -40,6 +45,30 @@ pub export-told : (s : Session) (len entries room stream : ℕ) (resume : Bool) 
     behind gate (export_tests s entries room stream resume x) ≡ export_code s len entries room stream resume x
 unfolding export_code
 export-told s len entries room stream resume x gate e = rw (e, ← gate-first s len moving (export_tests s entries room stream resume x))
+
+-- what the gate refuses, the call refuses; what it lets through has the export's own tests
+pub export-stopped : (s : Session) (len entries room stream : ℕ) (resume : Bool) (x : Info) (r : Refusal) → number_of r ≡ gated s len moving [] →
+    export_code s len entries room stream resume x ≡ number_of r
+unfolding export_code
+export-stopped s len entries room stream resume x r e = gate-refused s len moving (export_tests s entries room stream resume x) r e
+
+pub export-passed : (s : Session) (len entries room stream : ℕ) (resume : Bool) (x : Info) → 0 ≡ gated s len moving [] →
+    export_code s len entries room stream resume x ≡ first_of (export_tests s entries room stream resume x)
+unfolding export_code
+export-passed s len entries room stream resume x e = gate-passed s len moving (export_tests s entries room stream resume x) e
+
+-- the two ways of a call, by its code
+module _ (s : Session) (t l b : List ℕ) (stream : ℕ) (resume : Bool) (info budget : ℕ) where
+  pub export-refused : (r : Refusal) → export_code s (length t) (length l) (length b) stream resume (info_of info) ≡ number_of r →
+      export_out s t l b stream resume info budget ≡ refused_export (number_of r) s t l b
+  unfolding export_out
+  export-refused r e = rw (e, number-pos r)
+
+  pub export-ran : export_code s (length t) (length l) (length b) stream resume (info_of info) ≡ 0 →
+      export_out s t l b stream resume info budget ≡ ran_export s stream (info_of info)
+      (list_run (export_step (ground_of s)) (info_of info).last budget (standing (begun_by (work_of s stream)) t l b))
+  unfolding export_out
+  export-ran e = rw e
 
 -- the answer is how the call ends, with the session in which its stream does that
 pub finished-ended : (s : Session) (stream : ℕ) (x : Info) (at : Progress) → ending s stream (ended_by x at) ≡ finished_by s stream x at

@@ -22,8 +22,7 @@ use Rattle.lists.specs.Run.{Standing, standing, word_of, gpa_of, taking, stepped
 use Rattle.lists.specs.List.{is_over}
 use Rattle.lists.specs.declared.runs.Progress.{Progress}
 use Rattle.lists.proofs.Moves.{step_words, step_kept, run-each}
-use Rattle.export.specs.Export.{export_code, export_step, begun_by, finished_by, ExportOutcome, refused_export, ran_export, export_out}
-use Rattle.export.specs.declared.ExportAnswer.{ExportAnswer}
+use Rattle.export.specs.Export.{export_code, export_step, begun_by, finished_by, ExportAnswer, ExportOutcome, refused_export, ran_export, export_out}
 
 -- a success moves the page that the entry names, and a failure leaves it
 sent-known : (g : Ground) (s : Standing) → (taking (export_step g) s).status ≡ 0 → strange (page_at s.table (gpa_of s)) ≡ false

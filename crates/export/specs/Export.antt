@@ -1,9 +1,10 @@
 -- Export of a list.
-use Rattle.std.specs.Prelude.{Bool, false, cond, not, ◌&&◌, List, [], ◌∷◌, ◌++◌, ℕ, ◌+◌, eqb, leb, length}
+use Rattle.std.specs.Prelude.{Bool, false, cond, not, ◌&&◌, List, [], ◌∷◌, ◌++◌, ℕ, ◌+◌, eqb, leb, length, Result, Ok, Err}
 use Rattle.words.specs.Codes as codes
 use Rattle.words.specs.Info.{info_of}
 use Rattle.words.specs.declared.infos.Info.{Info}
-use Rattle.refusals.specs.Refusals.{Test, ◌gives◌}
+use Rattle.refusals.specs.Refusals.{Test, ◌gives◌, number_of, ending_number}
+use Rattle.refusals.specs.declared.Refusal.{Refusal}
 use Rattle.session.specs.Session.{moving, work_of, with_work}
 use Rattle.session.specs.Formed.{gated, usable_of, work_resting}
 use Rattle.session.specs.declared.Session.{Session}
@@ -16,8 +17,33 @@ use Rattle.lists.specs.Run.{Standing, standing, list_run}
 use Rattle.lists.specs.List.{list_tests, is_over, info_back}
 use Rattle.lists.specs.declared.Kind.TheVariants.{Export}
 use Rattle.lists.specs.declared.runs.Progress.{Progress}
-use Rattle.export.specs.declared.Ended.{Ended}
-use Rattle.export.specs.declared.ExportAnswer.{ExportAnswer}
+use Rattle.export.specs.declared.Ended as ended
+use Rattle.export.specs.declared.ExportAnswer as answer
+
+-- how a call ends: its numbers, and what its stream does then
+pub record Ended : Type 0 where
+  pub code : ℕ
+  pub info : ℕ
+  pub errors : ℕ
+  pub buffers : ℕ
+  pub work : Work
+
+abbrev pub end_of : ended.Ended → Ended
+end_of e = record { code = ending_number e.ending; info = e.info; errors = e.errors; buffers = e.buffers; work = e.work }
+
+-- what it answers
+pub record ExportAnswer : Type 0 where
+  pub code : ℕ
+  pub info : ℕ
+  pub errors : ℕ
+  pub buffers : ℕ
+  pub session : Session
+
+-- a refusal has all other numbers 0, and brings back the session that came
+abbrev pub export_answer_of : Session → Result answer.ExportAnswer Refusal → ExportAnswer
+export_answer_of s (Ok a) =
+    record { code = ending_number a.ending; info = a.info; errors = a.errors; buffers = a.buffers; session = a.session }
+export_answer_of s (Err r) = record { code = number_of r; info = 0; errors = 0; buffers = 0; session = s }
 
 -- ---- the tests, each by its name
 

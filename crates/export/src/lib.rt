@@ -3,21 +3,22 @@
 #![tactic(auto)]
 
 ghost use Rattle.std.specs.Prelude.{◌≡◌, ◌+◌, ◌≤◌};
-ghost use Rattle.session.specs.Formed.{behind, last_entry};
-ghost use Rattle.export.specs.Export.{resumable, export_asks, begun_by, mac_pages, ended_by, export_out};
+ghost use Rattle.refusals.specs.Refusals.{first_of, code_of};
+ghost use Rattle.session.specs.Formed.{last_entry};
+ghost use Rattle.export.specs.Export.{resumable, export_asks, begun_by, mac_pages, end_of, ended_by, export_answer_of, export_out};
 
 use lists::runs::Progress;
 use lists::{Kind, runs};
+use refusals::{Ending, Refusal};
 use session::changes::Change;
 use session::streams::Work;
 use session::{Session, When, changes, streams};
 use words::infos::Info;
-use words::{codes, infos};
 
-// What an export answers.
+// What an export answers that is not refused.
 #[derive(Clone, Copy)]
 pub struct ExportAnswer {
-    pub code: u64,
+    pub ending: Ending,
     pub info: u64,
     pub errors: u64,
     pub buffers: u64,
@@ -30,18 +31,12 @@ fn is_resumable(work: Work, x: Info) -> bool
 {
     match work {
         Work::AtRest => false,
-        Work::Interrupted {
-            next,
-            last,
-            errors: _,
-            filled: _,
-        } => { (x.first == next) & (x.last == last) }
+        Work::Interrupted { next, last, .. } => (x.first == next) & (x.last == last),
     }
 }
 
-// `gate` is the code of what stands before, and `work` what the stream is doing.
-pub fn export_code(
-    gate: u64,
+// The first of an export's own tests that holds; `work` is what the stream is doing.
+pub fn allow_export(
     created: u64,
     work: Work,
     entries: usize,
@@ -49,40 +44,29 @@ pub fn export_code(
     stream: u64,
     resume: bool,
     x: Info,
-) -> u64
-    ensures { result ≡ behind gate (export_asks created work entries room stream resume x) }
+) -> Result<(), Refusal>
+    ensures { code_of result ≡ first_of (export_asks created work entries room stream resume x) }
 {
-    let usable = streams::is_usable(created, stream);
-    let resumable = is_resumable(work, x);
-    let resting = streams::is_resting(work);
-    let listed = lists::list_code(entries, x);
-    let other_buffer = room != entries;
-    let no_list = listed != codes::DONE;
-    let no_resumption = resume & !resumable;
-    let no_new_call = !resume & !resting;
+    let no_resumption = resume & !is_resumable(work, x);
+    let no_new_call = !resume & !streams::is_resting(work);
     let not_from_0 = !resume & (x.first != 0);
-    if gate != codes::DONE {
-        return gate;
+    if !streams::is_usable(created, stream) {
+        return Err(Refusal::OperandInvalid);
     }
-    if !usable {
-        return codes::OPERAND_INVALID;
+    if room != entries {
+        return Err(Refusal::OperandInvalid);
     }
-    if other_buffer {
-        return codes::OPERAND_INVALID;
-    }
-    if no_list {
-        return listed;
-    }
+    lists::allow_list(entries, x)?;
     if no_resumption {
-        return codes::INVALID_RESUMPTION;
+        return Err(Refusal::InvalidResumption);
     }
     if no_new_call {
-        return codes::INVALID_RESUMPTION; // the stream is interrupted
+        return Err(Refusal::InvalidResumption); // the stream is interrupted
     }
     if not_from_0 {
-        return codes::OPERAND_INVALID; // after 44
+        return Err(Refusal::OperandInvalid); // after 44
     }
-    codes::DONE
+    Ok(())
 }
 
 // Where a call on the stream goes on.
@@ -97,9 +81,9 @@ pub fn begin(work: Work) -> Progress
         },
         Work::Interrupted {
             next,
-            last: _,
             errors,
             filled,
+            ..
         } => Progress {
             next,
             errors, // of the whole operation, and not of its last call alone
@@ -120,7 +104,7 @@ fn mac_pages(last: u64) -> u64
 // How a call ends: its numbers, and what its stream does then.
 #[derive(Clone, Copy)]
 pub struct Ended {
-    pub code: u64,
+    pub ending: Ending,
     pub info: u64,
     pub errors: u64,
     pub buffers: u64,
@@ -129,14 +113,14 @@ pub struct Ended {
 
 pub fn end(x: Info, at: Progress) -> Ended
     requires { (x.last ≤ last_entry) × (at.next ≤ x.last + 1) × (at.filled ≤ at.next) }
-    ensures { result ≡ ended_by x at }
+    ensures { end_of result ≡ ended_by x at }
 {
     let last = x.last;
     let info = lists::info_back(x, at.next);
     if lists::is_over(x, at.next) {
         let macs = mac_pages(last);
         return Ended {
-            code: codes::DONE,
+            ending: Ending::Done,
             info,
             errors: at.errors,
             buffers: 1 + macs + at.filled,
@@ -144,7 +128,7 @@ pub fn end(x: Info, at: Progress) -> Ended
         };
     }
     Ended {
-        code: codes::INTERRUPTED,
+        ending: Ending::Interrupted,
         info,
         errors: 0, // told at the end
         buffers: 0,
@@ -167,17 +151,16 @@ pub fn export(
     resume: bool,
     info: u64,
     budget: u64,
-) -> ExportAnswer
-    ensures value { result ≡ (export_out s table.old list.old buffer.old stream resume info budget).answer }
+) -> Result<ExportAnswer, Refusal>
+    ensures value { export_answer_of s result ≡ (export_out s table.old list.old buffer.old stream resume info budget).answer }
     ensures table_after { table.new ≡ (export_out s table.old list.old buffer.old stream resume info budget).table }
     ensures list_after { list.new ≡ (export_out s table.old list.old buffer.old stream resume info budget).list }
     ensures buffer_after { buffer.new ≡ (export_out s table.old list.old buffer.old stream resume info budget).buffer }
 {
-    let x = infos::info_of(info);
-    let gate = session::gate(s, table.len(), When::Moving);
+    session::gate(s, table.len(), When::Moving)?;
+    let x = Info::from(info);
     let work = streams::work_of(s, stream);
-    let code = export_code(
-        gate,
+    allow_export(
         s.fixed.created,
         work,
         list.len(),
@@ -185,16 +168,7 @@ pub fn export(
         stream,
         resume,
         x,
-    );
-    if code != codes::DONE {
-        return ExportAnswer {
-            code,
-            info: 0,
-            errors: 0,
-            buffers: 0,
-            session: s,
-        };
-    }
+    )?;
     let g = entry::ground_of(s);
     let from = begin(work);
     let at = runs::run_entries(table, list, buffer, from, x.last, budget, Kind::Export, g);
@@ -207,11 +181,11 @@ pub fn export(
             work: after,
         },
     );
-    ExportAnswer {
-        code: ended.code,
+    Ok(ExportAnswer {
+        ending: ended.ending,
         info: ended.info,
         errors: ended.errors,
         buffers: ended.buffers,
         session,
-    }
+    })
 }

@@ -28,16 +28,14 @@ use Rattle.migration.specs.declared.Alone.{Alone}
 use Rattle.migration.specs.declared.Alone.TheVariants.{NewEpoch, Reset, Abort}
 use Rattle.migration.proofs.Laws.{SweepOpen, AloneOpen}
 use Rattle.scan.specs.Look.{look_of}
-use Rattle.scan.specs.Scan.{stop_tests, stop_code, ScanOut, scan_run, part_of, range_run, checked_by, dcheck_tests, dcheck_code, dcheck_of}
+use Rattle.scan.specs.Scan.{Scanned, stop_tests, stop_code, ScanOut, scan_run, part_of, range_run, checked_by, dcheck_tests, dcheck_code, dcheck_of}
 use Rattle.scan.specs.declared.Scan.{Scan}
-use Rattle.scan.specs.declared.Scanned.{Scanned}
 use Rattle.scan.proofs.Outcomes.{dchecked}
 use Rattle.lists.specs.Run.{standing}
 use Rattle.lists.specs.List.{is_over}
 use Rattle.lists.proofs.Laws.{Bounds, run-bounds}
 use Rattle.entry.specs.Entry.{ground_of}
-use Rattle.export.specs.Export.{export_tests, export_code, export_step, begun_by, finished_by}
-use Rattle.export.specs.declared.ExportAnswer.{ExportAnswer}
+use Rattle.export.specs.Export.{ExportAnswer, export_tests, export_code, export_step, begun_by, finished_by}
 use Rattle.export.proofs.Laws.{export-ready}
 use Rattle.export.proofs.Moves.{exported}
 use Rattle.history.proofs.Sessions.{track-formed, start-formed, abort-formed, pause-formed, epoch-formed, reset-formed}

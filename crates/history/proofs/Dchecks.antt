@@ -21,8 +21,7 @@ use Rattle.session.specs.declared.Session.{Session}
 use Rattle.session.proofs.Laws.{gate-open, open-gate}
 use Rattle.session.proofs.FormedLaws.{formed-means, tlb-fits}
 use Rattle.migration.specs.Grant.{Ready}
-use Rattle.scan.specs.Scan.{ScanOut, written_of, answer_of, checked_by, ScanOutcome, ran_scan, refused_scan, dcheck_tests, dcheck_code, dcheck_of, dcheck_out}
-use Rattle.scan.specs.declared.ScanAnswer.{ScanAnswer}
+use Rattle.scan.specs.Scan.{ScanAnswer, ScanOut, written_of, answer_of, checked_by, ScanOutcome, ran_scan, refused_scan, dcheck_tests, dcheck_code, dcheck_of, dcheck_out}
 use Rattle.scan.specs.declared.Written.{Written}
 use Rattle.scan.proofs.Laws.{dcheck-fits}
 use Rattle.scan.proofs.Outcomes.{answer-session, answer-code, dchecked, dcheck-either}

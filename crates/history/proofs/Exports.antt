@@ -30,9 +30,8 @@ use Rattle.lists.specs.declared.runs.Progress.{Progress}
 use Rattle.lists.proofs.Laws.{run-keeps, run-bounds, back-next}
 use Rattle.lists.proofs.Moves.{step-length}
 use Rattle.entry.specs.Entry.{ground_of}
-use Rattle.export.specs.Export.{no_resumption, no_new_call, not_from_0, export_tests, export_code, export_step, begun_by, finished_by, ExportOutcome, ran_export}
+use Rattle.export.specs.Export.{ExportAnswer, no_resumption, no_new_call, not_from_0, export_tests, export_code, export_step, begun_by, finished_by, ExportOutcome, ran_export}
 use Rattle.export.specs.Export.{export_out}
-use Rattle.export.specs.declared.ExportAnswer.{ExportAnswer}
 use Rattle.export.proofs.Laws.{export-ready}
 use Rattle.export.proofs.Moves.{exported}
 use Rattle.calls.specs.Calls.{export_numbers, export_effect}

@@ -38,8 +38,7 @@ use Rattle.lists.specs.List.{is_over}
 use Rattle.lists.specs.declared.runs.Progress.{Progress}
 use Rattle.lists.proofs.Promises.{run-promises}
 use Rattle.entry.specs.Entry.{ground_of}
-use Rattle.export.specs.Export.{export_code, export_step, begun_by, finished_by, ExportOutcome, export_out}
-use Rattle.export.specs.declared.ExportAnswer.{ExportAnswer}
+use Rattle.export.specs.Export.{ExportAnswer, export_code, export_step, begun_by, finished_by, ExportOutcome, export_out}
 use Rattle.export.proofs.Moves.{exported, export-either}
 use Rattle.restore.specs.Restore.{restore_step, begun_at, RestoreOutcome}
 use Rattle.restore.proofs.Moves.{restore-either}

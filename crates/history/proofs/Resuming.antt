@@ -30,9 +30,8 @@ use Rattle.lists.specs.Run.{Standing, standing}
 use Rattle.lists.specs.List.{is_over}
 use Rattle.lists.proofs.Laws.{run-far}
 use Rattle.entry.specs.Entry.{ground_of}
-use Rattle.export.specs.Export.{no_resumption, no_new_call, not_from_0, export_tests, export_code, export_step, begun_by, done_by, interrupted_by, finished_by}
+use Rattle.export.specs.Export.{ExportAnswer, no_resumption, no_new_call, not_from_0, export_tests, export_code, export_step, begun_by, done_by, interrupted_by, finished_by}
 use Rattle.export.specs.Export.{ExportOutcome, ran_export, export_out}
-use Rattle.export.specs.declared.ExportAnswer.{ExportAnswer}
 use Rattle.export.proofs.Moves as moves
 use Rattle.calls.specs.Calls.{export_effect}
 use Rattle.calls.specs.declared.Call.TheVariants.{Export}

@@ -1,16 +1,17 @@
 -- What `sound` tells; that bytes in their layouts, read and written again, are the bytes that came; and which way `host_of` goes.
 use mathlib.Core.Path.{◌≡◌, refl, sym, ap, ◌∙◌}
 use mathlib.Core.Logic.{◌⊎◌, inl, inr, ⊎_elim}
-use mathlib.Core.Bool.{Bool, true, false, cond, not, ◌&&◌}
+use mathlib.Core.Bool.{Bool, true, false, cond, not, ◌&&◌, true≢false}
 use mathlib.Core.List.{List, [], ◌∷◌}
 use Prim.Native.Nat.{ℕ, ◌*◌, ◌/◌, ◌%◌}
 use native.Mathlib.Omega.{arith}
 use lib.Dec.{eqb}
 use lib.ListN.{length}
-use borrow.Author.Tests.{eqb-true, eq-eqb}
+use borrow.Author.Tests.{eqb-true, eq-eqb, ne_eqb}
 use Rattle.words.specs.Codes as codes
-use Rattle.refusals.specs.Refusals.{first_of}
-use Rattle.refusals.proofs.Laws.{either, and_left, and_right, first-all}
+use Rattle.refusals.specs.Refusals.{◌gives◌, first_of, number_of}
+use Rattle.refusals.specs.declared.Refusal.{Refusal}
+use Rattle.refusals.proofs.Laws.{either, and_left, and_right, first-all, number-pos}
 use Rattle.table.specs.Table.{legal}
 use Rattle.session.specs.Session.{changed_by}
 use Rattle.session.specs.Formed.{formed}
@@ -47,6 +48,22 @@ sound-means s len e =
       layout = and_left (fits (words_of s)) _ h.1.1.0;
       formed = and_right (fits (words_of s)) _ h.1.1.0;
     }
+
+-- 40 of what is not sound, passed and given
+pub lent-sound : (s : List ℕ) (len : ℕ) → 0 ≡ first_of (not (sound s len) gives codes.malformed ∷ []) → sound s len ≡ true
+lent-sound s len e = go (sound s len) e
+  where
+    go : (b : Bool) → 0 ≡ cond (not b) codes.malformed 0 → b ≡ true
+    go true e = refl
+    go false e = absurd (omega (arith, e))
+
+lent-unsound : (s : List ℕ) (len : ℕ) (r : Refusal) → number_of r ≡ first_of (not (sound s len) gives codes.malformed ∷ []) →
+    (sound s len ≡ false) × (number_of r ≡ codes.malformed)
+lent-unsound s len r e = go (sound s len) e
+  where
+    go : (b : Bool) → number_of r ≡ cond (not b) codes.malformed 0 → (b ≡ false) × (number_of r ≡ codes.malformed)
+    go true e = absurd (true≢false (rw e at (number-pos r)))
+    go false e = (refl, e)
 
 -- a table is whole words
 pub table-whole : (len : ℕ) → is_table len ≡ true → len % 8 ≡ 0
@@ -102,6 +119,10 @@ module _ (c : Call) (x : Lent) where
   pub host-none : in_layout c x ≡ false → host_of c x ≡ refused codes.malformed x
   unfolding host_of
   host-none e = rw e
+
+  -- bytes of another length than a session's
+  pub host-unlent : (length x.session ≡ session_bytes → ⊥) → host_of c x ≡ refused codes.malformed x
+  host-unlent n = host-none (rw (ne_eqb (length x.session) session_bytes n))
 
   -- 40 as the engine gives it
   first-40 : (code : ℕ) → code ≡ codes.malformed → first_of (host_tests c x code) ≡ codes.malformed
@@ -165,3 +186,7 @@ module _ (c : Call) (x : Lent) (reads : is_new c ≡ false) where
       let whole = eqb (length x.session) session_bytes && is_table (length x.table) in
       ⊎_elim (λ q. host-none c x (rw reads q)) (λ q. host-40 c x (unformed q))
       (at-fault whole (fits (words_of x.session)) (formed (session_of (words_of x.session)) (length x.table / 8)) e)
+
+  pub host-unsound : (r : Refusal) → number_of r ≡ first_of (not (sound x.session (length x.table)) gives codes.malformed ∷ []) →
+      host_of c x ≡ refused (number_of r) x
+  host-unsound r e = let n = lent-unsound x.session (length x.table) r e in rw n.1 (host-refused n.0)

@@ -11,9 +11,8 @@ use Rattle.page.specs.declared.moves.Move.{Move}
 use Rattle.table.specs.Table.{words_at, put_at}
 use Rattle.session.specs.Outcome.{Outcome, answered}
 use Rattle.session.proofs.Laws.{answered-either}
-use Rattle.memory.specs.declared.Turn.{Turn}
 use Rattle.memory.proofs.Laws.{page-turn}
-use Rattle.memory.specs.Memory.{page_turn}
+use Rattle.memory.specs.Memory.{Turn, page_turn}
 use Rattle.calls.specs.Calls.{effect}
 use Rattle.calls.specs.declared.Call.TheVariants.{OnPage}
 use Rattle.wire.specs.Bytes.{words_of, Bytes}

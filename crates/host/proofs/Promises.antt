@@ -25,8 +25,7 @@ use Rattle.wire.specs.Sessions.{session_of, session_words}
 use Rattle.wire.proofs.BytesLaws.{bytes-length}
 use Rattle.wire.proofs.SessionLaws.{session-length}
 use Rattle.wire.proofs.Promises.{reads-back}
-use Rattle.host.specs.declared.answers.Numbers.{Numbers}
-use Rattle.host.specs.Host.{Lent, lent, Left, in_layout, is_list, code_alone, played, host_of}
+use Rattle.host.specs.Host.{Numbers, Lent, lent, Left, in_layout, is_list, code_alone, played, host_of}
 use Rattle.host.specs.Promises.{Meets, OneOutcome, Untouched, code_and_page, RefusalWritesNothing, NamedToC, NoLayout, first_group, no_list_in, NoList}
 use Rattle.host.specs.Promises.{fresh, going, one_page, Gives42, Met}
 use Rattle.host.proofs.LayoutLaws.{host-none, host-either}

@@ -15,8 +15,7 @@ use Rattle.page.specs.declared.sweeps.Sweep.{Sweep}
 use Rattle.table.specs.Table.{legal, page_count, sweep_of}
 use Rattle.session.specs.Session.{new_session}
 use Rattle.session.specs.Formed.{within, fewest_created, most_created}
-use Rattle.session.specs.Outcome.{Outcome}
-use Rattle.session.specs.declared.changes.Verdict.{Verdict}
+use Rattle.session.specs.Outcome.{Verdict, Outcome}
 use Rattle.session.proofs.Laws.{answered-either}
 use Rattle.memory.specs.Memory.{new_code, new_out}
 use Rattle.calls.specs.Calls.{effect}

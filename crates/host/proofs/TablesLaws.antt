@@ -15,10 +15,8 @@ use Rattle.session.specs.declared.changes.Change.{Change}
 use Rattle.session.specs.declared.changes.Change.TheVariants.{Nothing}
 use Rattle.session.proofs.Laws.{gate-formed}
 use Rattle.migration.specs.Migration.{alone_when, alone_asks, alone_change, alone_verdict}
-use Rattle.migration.specs.Token.{token_says, token_change}
+use Rattle.migration.specs.Token.{Token, Granted, Refused, InTheWay, token_says, token_change}
 use Rattle.migration.specs.declared.Alone.{Alone}
-use Rattle.migration.specs.declared.token.Token.{Token}
-use Rattle.migration.specs.declared.token.Token.TheVariants.{Granted, Refused, InTheWay}
 use Rattle.migration.proofs.Laws.{alone-told, alone-answer, alone-table}
 use Rattle.calls.specs.Promises.{refusal}
 use Rattle.calls.specs.declared.Call.TheVariants.{OnSession, StartToken}

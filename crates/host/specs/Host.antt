@@ -1,17 +1,18 @@
 -- The C side's calls: what the bytes that a caller lends mean, and what each call leaves in them. One definition for all eighteen, over `effect_of`.
-use Rattle.std.specs.Prelude.{Bool, cond, not, ◌&&◌, ◌||◌, List, [], ◌∷◌, ℕ, ◌*◌, ◌/◌, ◌%◌, eqb, leb, length, replicate}
+use Rattle.std.specs.Prelude.{Bool, cond, not, ◌&&◌, ◌||◌, Result, List, [], ◌∷◌, ℕ, ◌*◌, ◌/◌, ◌%◌, eqb, leb, length, replicate}
 use Rattle.words.specs.Codes as codes
 use Rattle.refusals.specs.Refusals.{Test, ◌gives◌, first_of}
 use Rattle.table.specs.Table.{legal}
 use Rattle.session.specs.Formed.{most_entries}
 use Rattle.session.specs.declared.Session.{Session}
+use Rattle.migration.specs.Token.{token_of, token_says}
+use Rattle.migration.specs.declared.token.Obstacle.{Obstacle}
 use Rattle.calls.specs.Calls.{Effect, effect_of}
 use Rattle.calls.specs.Promises.{refusal, is_new}
 use Rattle.calls.specs.declared.Call.{Call}
 use Rattle.calls.specs.declared.Returned.{Returned}
 use Rattle.wire.specs.Bytes.{words_of, bytes_of}
 use Rattle.wire.specs.Sessions.{session_length, fits, session_of, session_words}
-use Rattle.host.specs.declared.answers.Numbers.{Numbers}
 
 -- what a caller lends, in bytes, and an export's resume, which is a number in C; a call that takes no list or no buffer is lent none
 pub record Lent : Type 0 where
@@ -29,6 +30,17 @@ lent_list s t l = lent_all s t l [] 0
 
 abbrev pub lent : List ℕ → List ℕ → Lent
 lent s t = lent_list s t []
+
+-- what a call answers; numbers that it does not give are 0
+pub record Numbers : Type 0 where
+  pub code : ℕ
+  pub page : ℕ
+  pub next : ℕ
+  pub first : ℕ
+  pub last : ℕ
+  pub info : ℕ
+  pub errors : ℕ
+  pub buffers : ℕ
 
 -- what a call leaves: its numbers, and the bytes
 pub record Left : Type 0 where
@@ -70,6 +82,12 @@ in_words x = is_list (length x.list) && is_list (length x.buffer) && leb x.resum
 -- the code alone
 abbrev pub code_alone : ℕ → Numbers
 code_alone code = record { code = code; page = 0; next = 0; first = 0; last = 0; info = 0; errors = 0; buffers = 0 }
+
+-- the token's, of what came of it
+abbrev pub token_numbers : {T : Type 0} → Result T Obstacle → Numbers
+token_numbers r =
+    let says = token_says (token_of r) in
+    record { code = says.code; page = says.page; next = 0; first = 0; last = 0; info = 0; errors = 0; buffers = 0 }
 
 -- and every byte as it was
 abbrev pub refused : ℕ → Lent → Left

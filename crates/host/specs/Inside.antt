@@ -6,13 +6,11 @@ use Rattle.page.specs.Sweeps.{swept_by}
 use Rattle.page.specs.declared.sweeps.Sweep.{Sweep}
 use Rattle.session.specs.Session.{changed_by}
 use Rattle.session.specs.Formed.{formed}
-use Rattle.session.specs.Outcome.{answered_by}
-use Rattle.session.specs.declared.changes.Verdict.{Verdict}
+use Rattle.session.specs.Outcome.{Verdict, answered_by}
 use Rattle.session.specs.declared.Phase.{Phase}
 use Rattle.session.specs.declared.Session.{Session}
 use Rattle.migration.specs.Migration.{on_all}
-use Rattle.migration.specs.Token.{token_out, token_change}
-use Rattle.migration.specs.declared.token.Token.{Token}
+use Rattle.migration.specs.Token.{Token, token_out, token_change}
 use Rattle.calls.specs.Calls.{effect_of}
 use Rattle.calls.specs.Promises.{is_new}
 use Rattle.calls.specs.declared.Call.{Call}

@@ -13,8 +13,7 @@ use Rattle.calls.specs.declared.Call.{Call}
 use Rattle.calls.specs.declared.Call.TheVariants.{OnAll, Dscan, Dcheck, Export, Restore}
 use Rattle.wire.specs.Bytes.{words_of, bytes_of}
 use Rattle.wire.specs.Sessions.{session_of, session_words}
-use Rattle.host.specs.declared.answers.Numbers.{Numbers}
-use Rattle.host.specs.Host.{Lent, lent, lent_all, Left, in_layout, is_list, code_alone, host_of}
+use Rattle.host.specs.Host.{Numbers, Lent, lent, lent_all, Left, in_layout, is_list, code_alone, host_of}
 
 -- what a function's contract says of its numbers, those that C does not get being 0, and of each slice that it was lent
 pub record Meets (c : Call) (x : Lent) (l : Left) : Type 0 where

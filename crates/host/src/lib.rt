@@ -3,7 +3,6 @@
 
 #![tactic(auto)]
 
-pub mod answers;
 pub mod pages;
 pub mod reads;
 pub mod sweeps;

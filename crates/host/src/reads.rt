@@ -1,12 +1,14 @@
 // Whether the lent bytes are what they should be: session and table in their layouts, lists and buffers in words.
-ghost use Rattle.std.specs.Prelude.{◌≡◌};
+ghost use Rattle.std.specs.Prelude.{◌≡◌, not, [], ◌∷◌};
+ghost use Rattle.words.specs.Codes as codes;
+ghost use Rattle.refusals.specs.Refusals.{◌gives◌, first_of, code_of};
 ghost use Rattle.host.specs.Host.{is_table, is_list};
 ghost use Rattle.host.specs.Inside.{sound};
 
+use refusals::Refusal;
 use session::streams::MOST_ENTRIES;
 use wire::sessions;
-
-pub const SESSION_BYTES: usize = 8 * sessions::SESSION_WORDS;
+use wire::sessions::SESSION_BYTES;
 
 pub fn is_table(len: usize) -> bool
     ensures { result ≡ is_table len }
@@ -20,11 +22,21 @@ pub fn is_sound(session: &[u8], len: usize) -> bool
     ensures { result ≡ sound session.now len }
 {
     let table = is_table(len);
-    if session.len() != SESSION_BYTES {
+    let Some(session) = session.as_array() else {
         return false;
-    }
+    };
     let formed = sessions::is_formed(session, len / 8);
     table & formed
+}
+
+// 40 of what is not sound.
+pub fn allow_lent(session: &[u8; SESSION_BYTES], len: usize) -> Result<(), Refusal>
+    ensures { code_of result ≡ first_of (not (sound session.now len) gives codes.malformed ∷ []) }
+{
+    if !is_sound(session, len) {
+        return Err(Refusal::Malformed);
+    }
+    Ok(())
 }
 
 // Whole words, 512 at most.

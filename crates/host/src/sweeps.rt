@@ -1,76 +1,67 @@
 // Calls on every page: New, track, start and pause. The table's bytes are read, moved and cleared in place; a call that is refused writes none.
-ghost use Rattle.std.specs.Prelude.{◌≡◌, true, ◌&&◌, length};
+ghost use Rattle.std.specs.Prelude.{◌≡◌, true, length};
+ghost use Rattle.refusals.specs.Refusals.{code_of};
+ghost use Rattle.session.specs.Outcome.{verdict_of};
 ghost use Rattle.migration.specs.Migration.{stopped};
 ghost use Rattle.calls.specs.declared.Call.TheVariants.{New, OnAll};
 ghost use Rattle.wire.specs.Bytes.{words_of};
-ghost use Rattle.host.specs.Host.{Lent, lent, Left, session_bytes, host_of};
+ghost use Rattle.host.specs.Host.{Lent, lent, Left, host_of};
 ghost use Rattle.host.specs.Inside.{sound, SweepTold};
 
 use crate::reads;
-use migration::Stops;
+use page::queries::Sought;
 use page::sweeps::Sweep;
-use session::changes::Verdict;
+use refusals::Refusal;
+use session::changes::Change;
+use wire::sessions::SESSION_BYTES;
 use wire::{sessions, tables};
-use words::codes;
 
-// Whether the table has what stops a call. No page is looked at unless asked.
-fn is_stopped(asked: bool, table: &[u8], k: Stops) -> bool
-    ensures { result ≡ (asked && stopped k (words_of table.now)) }
+// Whether the table has what stops a call.
+fn is_stopped(table: &[u8], stop: Option<Sought>) -> bool
+    ensures { result ≡ stopped stop (words_of table.now) }
 {
-    if asked {
-        return match k {
-            Stops::Never => false,
-            Stops::At { kind } => tables::has(table, kind),
-        };
-    }
-    false
+    stop.is_some_and(|kind| tables::has(table, kind))
 }
 
 // What the call comes to. Past 40.
-fn verdict_of(k: Sweep, session: &[u8], table: &[u8]) -> Verdict
-    requires { length session.now ≡ session_bytes }
-    ensures { sound session.now (length table.now) ≡ true → SweepTold k session.now table.now result }
+fn verdict_at(k: Sweep, session: &[u8; SESSION_BYTES], table: &[u8]) -> Result<Change, Refusal>
+    ensures { sound session.now (length table.now) ≡ true → SweepTold k session.now table.now (verdict_of result) }
 {
-    let phase = sessions::phase_at(session);
-    let gate = session::phase_code(phase, migration::sweep_when(k));
-    let stops = is_stopped(gate == codes::DONE, table, migration::stops_at(k));
-    let clock = sessions::clock_at(session);
-    let busy = sessions::is_busy(session);
-    migration::sweep_verdict(k, gate, clock, busy, stops)
+    session::allow_phase(sessions::phase_at(session), migration::sweep_when(k))?;
+    let stops = is_stopped(table, migration::stops_at(k));
+    migration::sweep_verdict(
+        k,
+        sessions::clock_at(session),
+        sessions::is_busy(session),
+        stops,
+    )
 }
 
-pub fn on_all(k: Sweep, session: &mut [u8], table: &mut [u8]) -> u64
-    ensures value { result ≡ (host_of (OnAll k) (lent session.old table.old)).answer.code }
+pub fn on_all(k: Sweep, session: &mut [u8], table: &mut [u8]) -> Result<(), Refusal>
+    ensures value { code_of result ≡ (host_of (OnAll k) (lent session.old table.old)).answer.code }
     ensures session_after { session.new ≡ (host_of (OnAll k) (lent session.old table.old)).session }
     ensures table_after { table.new ≡ (host_of (OnAll k) (lent session.old table.old)).table }
 {
-    if reads::is_sound(&session[..], table.len()) {
-        let made = verdict_of(k, &session[..], &table[..]);
-        if made.code == codes::DONE {
-            tables::sweep_all(table, k);
-            let change = made.change;
-            sessions::put_change(session, change);
-        }
-        return made.code;
-    }
-    codes::MALFORMED
+    let session = session.as_mut_array().ok_or(Refusal::Malformed)?;
+    reads::allow_lent(session, table.len())?;
+    let change = verdict_at(k, session, table)?;
+    tables::sweep_all(table, k);
+    sessions::put_change(session, change);
+    Ok(())
 }
 
-pub fn new(session: &mut [u8], table: &mut [u8], created: u64) -> u64
-    ensures value { result ≡ (host_of (New created) (lent session.old table.old)).answer.code }
+pub fn new(session: &mut [u8], table: &mut [u8], created: u64) -> Result<(), Refusal>
+    ensures value { code_of result ≡ (host_of (New created) (lent session.old table.old)).answer.code }
     ensures session_after { session.new ≡ (host_of (New created) (lent session.old table.old)).session }
     ensures table_after { table.new ≡ (host_of (New created) (lent session.old table.old)).table }
 {
-    let whole = session.len() == reads::SESSION_BYTES;
-    let legal = reads::is_table(table.len());
-    if whole & legal {
-        let code = memory::new_code(table.len() / 8, created);
-        if code == codes::DONE {
-            let made = session::new_session(table.len() / 16, created);
-            tables::clear(table);
-            sessions::put_session(session, made);
-        }
-        return code;
+    let session = session.as_mut_array().ok_or(Refusal::Malformed)?;
+    if !reads::is_table(table.len()) {
+        return Err(Refusal::Malformed);
     }
-    codes::MALFORMED
+    memory::allow_new(table.len() / 8, created)?;
+    let made = session::new_session(table.len() / 16, created);
+    tables::clear(table);
+    sessions::put_session(session, made);
+    Ok(())
 }

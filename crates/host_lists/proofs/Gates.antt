@@ -8,8 +8,9 @@ use native.Mathlib.Omega.{arith}
 use lib.Dec.{eqb}
 use lib.ListN.{length}
 use Rattle.words.specs.Codes as codes
-use Rattle.refusals.specs.Refusals.{Test, ◌gives◌, first_of}
-use Rattle.refusals.proofs.Laws.{and_left, and_right, not-true, all_codes, first-all}
+use Rattle.refusals.specs.Refusals.{Test, ◌gives◌, first_of, number_of}
+use Rattle.refusals.specs.declared.Refusal.{Refusal}
+use Rattle.refusals.proofs.Laws.{and_left, and_right, not-true, all_codes, first-all, number-pos}
 use Rattle.session.specs.Session.{among}
 use Rattle.session.specs.Formed.{phase_tests, gate_tests, gated, behind}
 use Rattle.session.specs.declared.Phase.{Phase}
@@ -34,6 +35,10 @@ or_plain n = eqb n 0 || plain n
 
 abbrev pub gate_for : List Phase → Lent → ℕ
 gate_for phases x = first_of (phase_tests (session_of (words_of x.session)).phase phases (not (in_words x) gives codes.operand_invalid ∷ []))
+
+-- behind a refusal no test is asked
+pub behind-refusal : (r : Refusal) (asks : List Test) → number_of r ≡ behind (number_of r) asks
+behind-refusal r asks = rw (number-pos r)
 
 module _ (c : Call) (phases : List Phase) (comes : ComesIn c phases) (x : Lent) (h : Sound x.session (length x.table)) where
   abbrev read : Session
@@ -78,16 +83,20 @@ module _ (c : Call) (phases : List Phase) (comes : ComesIn c phases) (x : Lent) 
       go true w = (w, sym (words-code asks w) ∙ e)
       go false w = absurd (never (not (among phases read.phase)) (rw w at (sym (no-words-code asks w) ∙ e)))
 
-  -- one does, and the engine answers with its code
+  -- one does, and the engine answers with its code: a refusal
   pub listed-refused :
       (asks : List Test) →
       all_codes or_plain asks ≡ true →
       (eqb (own asks) 0 ≡ false → (effect_of c read (words_of x.table) (words_of x.list) (words_of x.buffer)).returned.code ≡ own asks) →
-      eqb (behind gate asks) 0 ≡ false →
-      host_of c x ≡ refused (behind gate asks) x
+      (r : Refusal) →
+      behind gate asks ≡ number_of r →
+      host_of c x ≡ refused (number_of r) x
   unfolding played gated
-  listed-refused asks k told n = go (in_words x) refl
+  listed-refused asks k told r e = go (in_words x) refl ∙ ap (λ (m : ℕ). refused m x) e
     where
+      n : eqb (behind gate asks) 0 ≡ false
+      n = rw e (number-pos r)
+
       named : or_plain (own asks) ≡ true
       named = first-all or_plain (gate_tests read (length (words_of x.table)) phases asks) refl k
 

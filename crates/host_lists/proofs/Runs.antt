@@ -24,8 +24,7 @@ use Rattle.lists.specs.declared.runs.Progress.{Progress}
 use Rattle.export.specs.Export.{export_tests, export_code, export_step, begun_by, ended_by, export_out}
 use Rattle.export.proofs.Laws.{finished-ended}
 use Rattle.export.proofs.Moves.{finished-code}
-use Rattle.restore.specs.Restore.{restore_asks, restore_code, ended_at, restore_run, restore_out}
-use Rattle.restore.specs.declared.Ended.{Ended}
+use Rattle.restore.specs.Restore.{Ended, restore_asks, restore_code, ended_at, restore_run, restore_out}
 use Rattle.restore.proofs.Moves.{ended-code}
 use Rattle.calls.specs.Calls.{effect_of}
 use Rattle.calls.specs.Promises.{refusal}
@@ -33,8 +32,7 @@ use Rattle.calls.specs.declared.Call.TheVariants.{Dscan, Dcheck, Export, Restore
 use Rattle.wire.specs.Bytes.{words_of, bytes_of, Bytes}
 use Rattle.wire.specs.Sessions.{session_of, written_by}
 use Rattle.wire.proofs.ChangeLaws.{change-written}
-use Rattle.host.specs.Host.{Left, lent_list, lent_all, is_list, in_words, played, host_of}
-use Rattle.host.specs.declared.answers.Numbers.{Numbers}
+use Rattle.host.specs.Host.{Numbers, Left, lent_list, lent_all, is_list, in_words, played, host_of}
 use Rattle.host.proofs.LayoutLaws.{Sound, session-kept, host-played}
 use Rattle.host_lists.specs.Inside.{scanned_numbers, ended_numbers}
 

@@ -1,18 +1,30 @@
 // RESTORE: each entry is taken where it lies, with the sixteen bytes of its page. There is no buffer, and of the session no byte is written.
-ghost use Rattle.std.specs.Prelude.{◌≡◌};
+ghost use Rattle.std.specs.Prelude.{◌≡◌, true, length};
 ghost use Rattle.calls.specs.declared.Call.TheVariants.{Restore};
 ghost use Rattle.host.specs.Host.{Lent, lent_list, Left, host_of};
+ghost use Rattle.host.specs.Inside.{sound};
+ghost use Rattle.host_lists.specs.Inside.{restore_numbers};
 
-use host::answers::Numbers;
-use host::{answers, reads};
+use host::reads;
 use in_place::runs;
 use lists::Kind;
+use refusals::Refusal;
+use restore::Ended;
 use session::When;
 use wire::sessions;
-use words::{codes, infos};
+use wire::sessions::SESSION_BYTES;
+use words::infos::Info;
 
-pub fn restore(session: &[u8], table: &mut [u8], list: &mut [u8], info: u64, budget: u64) -> Numbers
-    ensures value { result ≡ (host_of (Restore info budget) (lent_list session.now table.old list.old)).answer }
+// Past 40.
+fn restore_sound(
+    session: &[u8; SESSION_BYTES],
+    table: &mut [u8],
+    list: &mut [u8],
+    info: u64,
+    budget: u64,
+) -> Result<Ended, Refusal>
+    requires { sound session.now (length table.old) ≡ true }
+    ensures value { restore_numbers result ≡ (host_of (Restore info budget) (lent_list session.now table.old list.old)).answer }
     ensures session_value { session.now ≡ (host_of (Restore info budget)
         (lent_list session.now table.old list.old)).session }
     ensures table_after { table.new ≡ (host_of (Restore info budget)
@@ -20,30 +32,34 @@ pub fn restore(session: &[u8], table: &mut [u8], list: &mut [u8], info: u64, bud
     ensures list_after { list.new ≡ (host_of (Restore info budget)
         (lent_list session.now table.old list.old)).list }
 {
-    if reads::is_sound(session, table.len()) {
-        let x = infos::info_of(info);
-        let phase = sessions::phase_at(session);
-        let gate = crate::gate(phase, When::Idle, reads::is_list(list.len()));
-        let code = restore::restore_code(gate, list.len() / 8, x);
-        if code != codes::DONE {
-            return answers::code_alone(code);
-        }
-        let g = crate::ground_at(session);
-        let from = restore::begin(x);
-        let mut none = [0u8; 0];
-        let buffer: &mut [u8] = &mut none;
-        let at = runs::run_entries(table, list, buffer, from, x.last, budget, Kind::Restore, g);
-        let ended = restore::end(x, at.next);
-        return Numbers {
-            code: ended.code,
-            page: 0,
-            next: 0,
-            first: 0,
-            last: 0,
-            info: ended.info,
-            errors: 0,
-            buffers: 0,
-        };
-    }
-    answers::code_alone(codes::MALFORMED)
+    let phase = sessions::phase_at(session);
+    crate::gate(phase, When::Idle, reads::is_list(list.len()))?;
+    let x = Info::from(info);
+    restore::allow_restore(list.len() / 8, x)?;
+    let g = crate::ground_at(session);
+    let from = restore::begin(x);
+    let mut none = [0u8; 0];
+    let buffer: &mut [u8] = &mut none;
+    let at = runs::run_entries(table, list, buffer, from, x.last, budget, Kind::Restore, g);
+    Ok(restore::end(x, at.next))
+}
+
+pub fn restore(
+    session: &[u8],
+    table: &mut [u8],
+    list: &mut [u8],
+    info: u64,
+    budget: u64,
+) -> Result<Ended, Refusal>
+    ensures value { restore_numbers result ≡ (host_of (Restore info budget) (lent_list session.now table.old list.old)).answer }
+    ensures session_value { session.now ≡ (host_of (Restore info budget)
+        (lent_list session.now table.old list.old)).session }
+    ensures table_after { table.new ≡ (host_of (Restore info budget)
+        (lent_list session.now table.old list.old)).table }
+    ensures list_after { list.new ≡ (host_of (Restore info budget)
+        (lent_list session.now table.old list.old)).list }
+{
+    let session = session.as_array().ok_or(Refusal::Malformed)?;
+    reads::allow_lent(session, table.len())?;
+    restore_sound(session, table, list, info, budget)
 }

@@ -3,44 +3,28 @@ ghost use Rattle.std.specs.Prelude.{◌≡◌, true, length};
 ghost use Rattle.calls.specs.declared.Call.TheVariants.{Dscan, Dcheck};
 ghost use Rattle.host.specs.Host.{Lent, lent_list, Left, host_of};
 ghost use Rattle.host.specs.Inside.{sound};
-ghost use Rattle.host_lists.specs.Inside.{scanned_numbers};
+ghost use Rattle.host_lists.specs.Inside.{scan_numbers};
 
-use host::answers::Numbers;
-use host::{answers, reads};
+use host::reads;
 use in_place::scans;
+use refusals::Refusal;
 use scan::{Scan, Scanned};
 use session::When;
 use session::changes::Change;
 use wire::sessions;
-use words::codes;
-
-fn numbers_of(got: Scanned) -> Numbers
-    ensures { result ≡ scanned_numbers got }
-{
-    let w = scan::written_of(got.put);
-    Numbers {
-        code: got.code,
-        page: 0,
-        next: got.next as u64,
-        first: w.first,
-        last: w.last,
-        info: 0,
-        errors: 0,
-        buffers: 0,
-    }
-}
+use wire::sessions::SESSION_BYTES;
 
 // Past 40.
 fn dscan_sound(
-    session: &[u8],
+    session: &[u8; SESSION_BYTES],
     table: &mut [u8],
     list: &mut [u8],
     first: usize,
     count: usize,
     budget: usize,
-) -> Numbers
+) -> Result<Scanned, Refusal>
     requires { sound session.now (length table.old) ≡ true }
-    ensures value { result ≡ (host_of (Dscan first count budget) (lent_list session.now table.old list.old)).answer }
+    ensures value { scan_numbers result ≡ (host_of (Dscan first count budget) (lent_list session.now table.old list.old)).answer }
     ensures session_value { session.now ≡ (host_of (Dscan first count budget)
         (lent_list session.now table.old list.old)).session }
     ensures table_after { table.new ≡ (host_of (Dscan first count budget)
@@ -49,14 +33,10 @@ fn dscan_sound(
         (lent_list session.now table.old list.old)).list }
 {
     let phase = sessions::phase_at(session);
-    let pages = sessions::pages_at(session);
+    crate::gate(phase, When::Live, reads::is_list(list.len()))?;
+    scan::allow_dscan(sessions::pages_at(session), list.len() / 8, first, count)?;
     let clock = sessions::clock_at(session);
-    let gate = crate::gate(phase, When::Live, reads::is_list(list.len()));
-    let code = scan::dscan_code(gate, pages, list.len() / 8, first, count);
-    if code != codes::DONE {
-        return answers::code_alone(code);
-    }
-    let got = scans::scan_range(
+    Ok(scans::scan_range(
         table,
         list,
         count,
@@ -66,8 +46,7 @@ fn dscan_sound(
             clock,
             checking: false,
         },
-    );
-    numbers_of(got)
+    ))
 }
 
 pub fn dscan(
@@ -77,8 +56,8 @@ pub fn dscan(
     first: usize,
     count: usize,
     budget: usize,
-) -> Numbers
-    ensures value { result ≡ (host_of (Dscan first count budget) (lent_list session.now table.old list.old)).answer }
+) -> Result<Scanned, Refusal>
+    ensures value { scan_numbers result ≡ (host_of (Dscan first count budget) (lent_list session.now table.old list.old)).answer }
     ensures session_value { session.now ≡ (host_of (Dscan first count budget)
         (lent_list session.now table.old list.old)).session }
     ensures table_after { table.new ≡ (host_of (Dscan first count budget)
@@ -86,34 +65,34 @@ pub fn dscan(
     ensures list_after { list.new ≡ (host_of (Dscan first count budget)
         (lent_list session.now table.old list.old)).list }
 {
-    if reads::is_sound(session, table.len()) {
-        return dscan_sound(session, table, list, first, count, budget);
-    }
-    answers::code_alone(codes::MALFORMED)
+    let session = session.as_array().ok_or(Refusal::Malformed)?;
+    reads::allow_lent(session, table.len())?;
+    dscan_sound(session, table, list, first, count, budget)
 }
 
 // Past 40.
-fn dcheck_sound(session: &mut [u8], table: &mut [u8], list: &mut [u8], budget: usize) -> Numbers
+fn dcheck_sound(
+    session: &mut [u8; SESSION_BYTES],
+    table: &mut [u8],
+    list: &mut [u8],
+    budget: usize,
+) -> Result<Scanned, Refusal>
     requires { sound session.old (length table.old) ≡ true }
-    ensures value { result ≡ (host_of (Dcheck budget) (lent_list session.old table.old list.old)).answer }
+    ensures value { scan_numbers result ≡ (host_of (Dcheck budget) (lent_list session.old table.old list.old)).answer }
     ensures session_after { session.new ≡ (host_of (Dcheck budget) (lent_list session.old table.old list.old)).session }
     ensures table_after { table.new ≡ (host_of (Dcheck budget) (lent_list session.old table.old list.old)).table }
     ensures list_after { list.new ≡ (host_of (Dcheck budget) (lent_list session.old table.old list.old)).list }
 {
-    let phase = sessions::phase_at(&session[..]);
-    let pages = sessions::pages_at(&session[..]);
-    let clock = sessions::clock_at(&session[..]);
-    let check = sessions::check_at(&session[..]);
-    let gate = crate::gate(phase, When::Blackout, reads::is_list(list.len()));
-    let code = scan::dcheck_code(gate, check, list.len() / 8);
-    if code != codes::DONE {
-        return answers::code_alone(code);
-    }
+    let phase = sessions::phase_at(session);
+    crate::gate(phase, When::Blackout, reads::is_list(list.len()))?;
+    let check = sessions::check_at(session);
+    scan::allow_dcheck(check, list.len() / 8)?;
+    let clock = sessions::clock_at(session);
     let place = check.place;
     let got = scans::scan_range(
         table,
         list,
-        pages - place,
+        sessions::pages_at(session) - place,
         Scan {
             first: place,
             budget,
@@ -123,17 +102,21 @@ fn dcheck_sound(session: &mut [u8], table: &mut [u8], list: &mut [u8], budget: u
     );
     let after = scan::check_after(got);
     sessions::put_change(session, Change::ToCheck { check: after });
-    numbers_of(got)
+    Ok(got)
 }
 
-pub fn dcheck(session: &mut [u8], table: &mut [u8], list: &mut [u8], budget: usize) -> Numbers
-    ensures value { result ≡ (host_of (Dcheck budget) (lent_list session.old table.old list.old)).answer }
+pub fn dcheck(
+    session: &mut [u8],
+    table: &mut [u8],
+    list: &mut [u8],
+    budget: usize,
+) -> Result<Scanned, Refusal>
+    ensures value { scan_numbers result ≡ (host_of (Dcheck budget) (lent_list session.old table.old list.old)).answer }
     ensures session_after { session.new ≡ (host_of (Dcheck budget) (lent_list session.old table.old list.old)).session }
     ensures table_after { table.new ≡ (host_of (Dcheck budget) (lent_list session.old table.old list.old)).table }
     ensures list_after { list.new ≡ (host_of (Dcheck budget) (lent_list session.old table.old list.old)).list }
 {
-    if reads::is_sound(&session[..], table.len()) {
-        return dcheck_sound(session, table, list, budget);
-    }
-    answers::code_alone(codes::MALFORMED)
+    let session = session.as_mut_array().ok_or(Refusal::Malformed)?;
+    reads::allow_lent(session, table.len())?;
+    dcheck_sound(session, table, list, budget)
 }

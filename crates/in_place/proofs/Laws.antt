@@ -6,8 +6,7 @@ use lib.ListN.{length}
 use Rattle.lists.specs.Run.{Standing, standing}
 use Rattle.lists.specs.declared.runs.Progress.{Progress}
 use Rattle.lists.proofs.Laws.{returned}
-use Rattle.scan.specs.Scan.{ScanOut}
-use Rattle.scan.specs.declared.Scanned.{Scanned}
+use Rattle.scan.specs.Scan.{Scanned, ScanOut}
 use Rattle.scan.proofs.Laws.{parts}
 use Rattle.wire.specs.Bytes.{words_of, bytes_of, Bytes}
 use Rattle.wire.proofs.BytesLaws.{bytes_back}

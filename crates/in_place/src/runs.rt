@@ -9,16 +9,18 @@ use entry::Ground;
 use lists::runs::Progress;
 use lists::{Kind, runs};
 use wire::{bytes, tables};
-use words::entries;
+use words::entries::Entry;
 
 // An entry's word in the buffer; 0 where the buffer has none.
 fn held_at(buffer: &[u8], i: usize) -> u64
     ensures { result ≡ get_or (words_of buffer.now) i 0 }
 {
+    // The buffer is of bytes: `get` would find one of them, and not a word.
     if i < buffer.len() / 8 {
-        return bytes::word_at(buffer, 8 * i);
+        bytes::word_at(buffer, 8 * i)
+    } else {
+        0
     }
-    0
 }
 
 // Where the buffer has no word nothing is written: a call without a buffer lends an empty one.
@@ -54,7 +56,7 @@ fn step(
     let i = at.next as usize;
     let word = bytes::word_at(&list[..], 8 * i);
     let held = held_at(&buffer[..], i);
-    let e = entries::entry_of(word);
+    let e = Entry::from(word);
     let k = e.gpa as usize;
     let before = tables::load(&table[..], k);
     let got = lists::take(kind, g, word, held, before);
@@ -89,13 +91,11 @@ pub fn run_entries(
         (standing from (words_of table.old) (words_of list.old) (words_of buffer.old))).buffer }
 {
     let mut at = from;
-    let mut spent: u64 = 0;
-    while at.next <= last {
-        if budget <= spent {
-            return at;
+    for _ in 0..budget {
+        if last < at.next {
+            break;
         }
         at = step(table, list, buffer, at, kind, g);
-        spent = spent + 1;
     }
     at
 }

@@ -1,57 +1,42 @@
 // The pages of a part of the table in turn. A page that a scan does not list is read and not written.
-ghost use Rattle.std.specs.Prelude.{◌≡◌, cond, true, ◌+◌, ◌*◌, ◌/◌, ◌%◌, ◌≤◌, ◌<◌, length, set};
+ghost use Rattle.std.specs.Prelude.{◌≡◌, cond, ◌+◌, ◌*◌, ◌/◌, ◌%◌, ◌≤◌, ◌<◌, length, set};
 ghost use Rattle.page.specs.Page.{page_of, on_words};
 ghost use Rattle.table.specs.Table.{most_pages, words_at, page_at, put_at};
 ghost use Rattle.scan.specs.Look.{listed_word, listed_page};
-ghost use Rattle.scan.specs.Scan.{scan_run, range_run};
+ghost use Rattle.scan.specs.Scan.{scanned_of, scan_run, range_run};
 ghost use Rattle.wire.specs.Bytes.{words_of, bytes_of};
-ghost use Rattle.in_place.specs.Turn.{turn_code, visits};
+ghost use Rattle.in_place.specs.Turn.{turn_code, visits, Turned};
 
-use page::{Clock, PageWords, queries};
+use page::{PageWords, queries};
+use refusals::Ending;
 use scan::{Scan, Scanned, looks};
 use wire::{bytes, tables};
-use words::codes;
 
-// A page that is listed goes into the part, and its word into the list; how many words are then written.
-fn visit(
+// A page that is listed goes into the part, and its word into the list.
+fn visit(part: &mut [u8], list: &mut [u8], scan: Scan, i: usize, put: usize, w: PageWords)
+    requires part_len { (length part.old % 8 ≡ 0) × (length list.old % 8 ≡ 0) }
+    requires put_in_bounds { (scan.first + i < most_pages) × (put < length list.old / 8) }
+    ensures part_after { words_of part.new ≡ put_at (words_of part.old) i (on_words (listed_page scan.clock) w) }
+    ensures list_after { words_of list.new ≡ set (words_of list.old) put (listed_word (page_of w).state (scan.first + i)) }
+{
+    tables::store(part, i, looks::listed_words(w, scan.clock));
+    bytes::put_word(list, 8 * put, looks::listed_word(w, scan.first + i));
+}
+
+// One page that the budget reaches: how many words are then written, or why the scan stops there. Most are neither blocked nor listed, and are passed at
+// once.
+fn look_at(
     part: &mut [u8],
     list: &mut [u8],
+    scan: Scan,
     i: usize,
     put: usize,
-    w: PageWords,
-    listed: bool,
-    number: usize,
-    clock: Clock,
-) -> usize
-    requires { (length part.old % 8 ≡ 0) × (length list.old % 8 ≡ 0) × (listed ≡ true → put < length list.old / 8) }
-    ensures value { result ≡ cond listed (put + 1) put }
-    ensures part_after { words_of part.new ≡ cond listed
-        (put_at (words_of part.old) i (on_words (listed_page clock) w)) (words_of part.old) }
-    ensures list_after { words_of list.new ≡ cond listed
-        (set (words_of list.old) put (listed_word (page_of w).state number)) (words_of list.old) }
-{
-    if listed {
-        let after = looks::listed_words(w, clock);
-        let word = looks::listed_word(w, number);
-        tables::store(part, i, after);
-        bytes::put_word(list, 8 * put, word);
-        return put + 1;
-    }
-    put
-}
-
-// What a look comes to: why the scan stops at the page, or 0, and how many words are then written.
-#[derive(Clone, Copy)]
-struct Turn {
-    code: u64,
-    put: usize,
-}
-
-// One page that the budget reaches. Most are neither blocked nor listed, and are passed at once.
-fn look_at(part: &mut [u8], list: &mut [u8], scan: Scan, i: usize, put: usize) -> Turn
+) -> Result<usize, Ending>
     requires { (length part.old % 8 ≡ 0) × (length list.old % 8 ≡ 0) × (scan.first + i < most_pages) × (i < scan.budget) }
-    ensures code_value { result.code ≡ turn_code scan i put (words_of part.old) (words_of list.old) }
-    ensures put_value { result.put ≡ cond (visits scan i put (words_of part.old) (words_of list.old)) (put + 1) put }
+    ensures value { Turned
+        (turn_code scan i put (words_of part.old) (words_of list.old))
+        (cond (visits scan i put (words_of part.old) (words_of list.old)) (put + 1) put)
+        result }
     ensures part_after { words_of part.new ≡ cond (visits scan i put (words_of part.old) (words_of list.old))
         (put_at (words_of part.old) i (on_words (listed_page scan.clock) (words_at (words_of part.old) i)))
         (words_of part.old) }
@@ -63,66 +48,51 @@ fn look_at(part: &mut [u8], list: &mut [u8], scan: Scan, i: usize, put: usize) -
     let blocked = queries::is_blocked(words);
     let listed = looks::is_listed(words);
     if !(blocked | listed) {
-        return Turn {
-            code: codes::DONE,
-            put,
-        };
+        return Ok(put);
     }
-    let code = scan::stop_code(scan, blocked, listed, i, put, list.len() / 8);
-    if code != codes::DONE {
-        return Turn { code, put };
+    if let Some(ending) = scan::stop(scan, blocked, listed, i, put, list.len() / 8) {
+        return Err(ending);
     }
-    let written = visit(
-        part,
-        list,
-        i,
-        put,
-        words,
-        listed,
-        scan.first + i,
-        scan.clock,
-    );
-    Turn {
-        code: codes::DONE,
-        put: written,
+    if !listed {
+        return Ok(put);
     }
+    visit(part, list, scan, i, put, words);
+    Ok(put + 1)
 }
 
 // The pages of a part of the table in turn. A page that the budget does not reach is not looked at.
 fn scan_part(part: &mut [u8], list: &mut [u8], scan: Scan) -> Scanned
     requires { (length part.old % 8 ≡ 0) × (length list.old % 8 ≡ 0) × (scan.first + length part.old / 16 ≤ most_pages) }
-    ensures value { result ≡ (scan_run (length part.old / 16) scan 0 0 (words_of part.old) (words_of list.old)).scanned }
+    ensures value { scanned_of result ≡ (scan_run (length part.old / 16) scan 0 0 (words_of part.old) (words_of list.old)).scanned }
     ensures part_after { part.new ≡ bytes_of
         (scan_run (length part.old / 16) scan 0 0 (words_of part.old) (words_of list.old)).part }
     ensures list_after { list.new ≡ bytes_of
         (scan_run (length part.old / 16) scan 0 0 (words_of part.old) (words_of list.old)).list }
 {
     let n = part.len() / 16;
-    let mut i: usize = 0;
-    let mut put: usize = 0;
-    while i < n {
+    let mut put = 0;
+    for i in 0..n {
         if scan.budget <= i {
             return Scanned {
-                code: codes::INTERRUPTED,
+                ending: Ending::Interrupted,
                 next: scan.first + i,
                 put,
             };
         }
-        let turn = look_at(part, list, scan, i, put);
-        if turn.code != codes::DONE {
-            return Scanned {
-                code: turn.code,
-                next: scan.first + i,
-                put,
-            };
+        match look_at(part, list, scan, i, put) {
+            Ok(written) => put = written,
+            Err(ending) => {
+                return Scanned {
+                    ending,
+                    next: scan.first + i,
+                    put,
+                };
+            }
         }
-        put = turn.put;
-        i = i + 1;
     }
-    let code = scan::end_code(scan.checking);
     Scanned {
-        code,
-        next: scan.first + i,
+        ending: scan::end(scan.checking),
+        next: scan.first + n,
         put,
     }
 }
@@ -131,7 +101,7 @@ fn scan_part(part: &mut [u8], list: &mut [u8], scan: Scan) -> Scanned
 pub fn scan_range(table: &mut [u8], list: &mut [u8], count: usize, scan: Scan) -> Scanned
     requires table_len { (length table.old % 8 ≡ 0) × (length list.old % 8 ≡ 0) }
     requires count_in_bounds { (16 * scan.first + 16 * count ≤ length table.old) × (length table.old ≤ 16 * most_pages) }
-    ensures value { result ≡ (range_run count scan (words_of table.old) (words_of list.old)).scanned }
+    ensures value { scanned_of result ≡ (range_run count scan (words_of table.old) (words_of list.old)).scanned }
     ensures table_after { table.new ≡ bytes_of (range_run count scan (words_of table.old) (words_of list.old)).part }
     ensures list_after { list.new ≡ bytes_of (range_run count scan (words_of table.old) (words_of list.old)).list }
 {

@@ -1,9 +1,8 @@
 -- The laws of a run, for any step: one for each way that a turn goes; what every step keeps, a run keeps; no count passes the next index. And what is
 -- known past the tests of a list.
-use mathlib.Core.Path.{◌≡◌, refl, ap, ◌∙◌}
+use mathlib.Core.Path.{◌≡◌, refl, ap}
 use mathlib.Core.Logic.{◌⊎◌, inl, inr, ⊎_elim}
-use mathlib.Core.Bool.{Bool, true, false, cond, not, ◌&&◌}
-use mathlib.Core.List.{List, ◌∷◌, ◌++◌}
+use mathlib.Core.Bool.{false, not, ◌&&◌}
 use lib.Dec.{eqb, leb}
 use Prim.Native.Nat.{ℕ, zero, suc, ◌+◌, ◌-◌, ◌≤◌, ◌<◌}
 use native.Mathlib.Omega.{arith}
@@ -12,13 +11,11 @@ use Rattle.words.specs.Info.{info_word, with_first}
 use Rattle.words.specs.Statuses as statuses
 use Rattle.words.specs.declared.infos.Info.{Info}
 use Rattle.words.proofs.Runs.{bit-lt}
-use Rattle.refusals.specs.Refusals.{Test, ◌gives◌, first_of}
 use Rattle.refusals.proofs.Laws.{either, and_right, not-false}
 use Rattle.session.specs.Formed.{within, last_entry, most_entries}
-use Rattle.session.proofs.Laws.{first_then}
 use Rattle.lists.specs.Kinds.{Step}
 use Rattle.lists.specs.Run.{Standing, taking, counted, stepped, list_run}
-use Rattle.lists.specs.List.{bad_length, last_beyond, list_tests, info_back}
+use Rattle.lists.specs.List.{bad_length, last_beyond, info_back}
 use Rattle.lists.specs.declared.runs.Progress.{Progress}
 
 pub run-spent : (f : Step) (last budget spent : ℕ) (s : Standing) → budget ≤ spent → list_run f last (budget - spent) s ≡ s
@@ -88,15 +85,6 @@ run-bounds f last = run-keeps (λ (x : Standing). Bounds last x.at) f last
     (λ s h b. record { next = next-step f s last h; counts = counts_step f s b.counts })
 
 -- ---- what is known past the tests of a list
-
--- before others they are one test
-pub list-test : (entries : ℕ) (x : Info) (m : List Test) →
-    first_of (list_tests entries x ++ m) ≡ first_of (not (eqb (first_of (list_tests entries x)) 0) gives first_of (list_tests entries x) ∷ m)
-list-test entries x m = first_then (list_tests entries x) m refl ∙ go (eqb (first_of (list_tests entries x)) 0)
-  where
-    go : (b : Bool) → cond b (first_of m) (first_of (list_tests entries x)) ≡ cond (not b) (first_of (list_tests entries x)) (first_of m)
-    go true = refl
-    go false = refl
 
 pub record Listed (entries : ℕ) (x : Info) : Type 0 where
   pub within : x.last < entries

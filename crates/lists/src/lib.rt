@@ -4,15 +4,15 @@
 
 ghost use Rattle.std.specs.Prelude.{◌≡◌};
 ghost use Rattle.words.specs.Info.{info_word, with_first};
-ghost use Rattle.refusals.specs.Refusals.{first_of};
+ghost use Rattle.refusals.specs.Refusals.{first_of, code_of};
 ghost use Rattle.lists.specs.Kinds.{taken_by};
 ghost use Rattle.lists.specs.List.{list_tests, is_over, info_back};
 
 use entry::{Ground, Taken};
 use page::PageWords;
+use refusals::Refusal;
 use session::streams;
 use words::infos::Info;
-use words::{codes, infos};
 
 // The run over the entries.
 pub mod runs;
@@ -35,26 +35,22 @@ pub fn take(kind: Kind, g: Ground, word: u64, held: u64, w: PageWords) -> Taken
 }
 
 // The tests of a list's length and of its info word; which of them comes first cannot be seen.
-pub fn list_code(entries: usize, x: Info) -> u64
-    ensures { result ≡ first_of (list_tests entries x) }
+pub fn allow_list(entries: usize, x: Info) -> Result<(), Refusal>
+    ensures { code_of result ≡ first_of (list_tests entries x) }
 {
-    let bad_length = !((1 <= entries) & (entries <= streams::MOST_ENTRIES));
-    let bad_format = x.format != 0;
-    let bits_set = x.zero52 != 0;
-    let last_beyond = entries as u64 <= x.last;
-    if bad_length {
-        return codes::OPERAND_INVALID;
+    if !((1 <= entries) & (entries <= streams::MOST_ENTRIES)) {
+        return Err(Refusal::OperandInvalid);
     }
-    if bad_format {
-        return codes::OPERAND_INVALID;
+    if x.format != 0 {
+        return Err(Refusal::OperandInvalid);
     }
-    if bits_set {
-        return codes::OPERAND_INVALID;
+    if x.zero52 != 0 {
+        return Err(Refusal::OperandInvalid); // bits 54:52
     }
-    if last_beyond {
-        return codes::OPERAND_INVALID;
+    if entries as u64 <= x.last {
+        return Err(Refusal::OperandInvalid);
     }
-    codes::DONE
+    Ok(())
 }
 
 // All entries are done.
@@ -68,13 +64,7 @@ pub fn is_over(x: Info, next: u64) -> bool
 fn info_from(x: Info, first: u64) -> u64
     ensures { result ≡ info_word (with_first x first) }
 {
-    infos::info_word(Info {
-        format: x.format,
-        first,
-        hpa: x.hpa,
-        zero52: x.zero52,
-        last: x.last,
-    })
+    u64::from(Info { first, ..x })
 }
 
 // FIRST counts to 511 and then from 0 again.

@@ -7,9 +7,12 @@ ghost use Rattle.lists.specs.Run.{standing, counted, stepped, list_run};
 
 use crate::Kind;
 use entry::{Ground, Taken};
-use words::{entries, statuses};
+use words::entries::Entry;
+use words::statuses;
+use words::statuses::Failure;
 
-// How far an operation has come, over all its calls.
+// How far an operation has come, over all its calls. That no count passes `next` stands in the contracts that need it: `export::begin` makes one of these of
+// whatever work there is, that of a malformed session too, so it is no invariant.
 #[derive(Clone, Copy)]
 pub struct Progress {
     pub next: u64,
@@ -32,7 +35,7 @@ pub fn count(at: Progress, got: Taken) -> Progress
     ensures { result ≡ counted at got }
 {
     let status = got.status;
-    let error = (status != statuses::SUCCESS) & (status != statuses::SKIPPED);
+    let error = (status != statuses::SUCCESS) & (status != Failure::Skipped as u64);
     let errors = count_if(at.errors, error);
     let filled = count_if(at.filled, got.contents);
     Progress {
@@ -46,10 +49,7 @@ pub fn count(at: Progress, got: Taken) -> Progress
 fn held_at(buffer: &[u64], i: usize) -> u64
     ensures { result ≡ get_or buffer.now i 0 }
 {
-    if i < buffer.len() {
-        return buffer[i];
-    }
-    0
+    buffer.get(i).copied().unwrap_or(0)
 }
 
 // Where the buffer has no word nothing is written: a call without a buffer lends an empty one.
@@ -79,7 +79,7 @@ fn step(
     let i = at.next as usize;
     let word = list[i];
     let held = held_at(&buffer[..], i);
-    let e = entries::entry_of(word);
+    let e = Entry::from(word);
     let k = e.gpa as usize;
     let before = table::load(&table[..], k);
     let got = crate::take(kind, g, word, held, before);
@@ -112,13 +112,11 @@ pub fn run_entries(
         (standing from table.old list.old buffer.old)).buffer }
 {
     let mut at = from;
-    let mut spent: u64 = 0;
-    while at.next <= last {
-        if budget <= spent {
-            return at;
+    for _ in 0..budget {
+        if last < at.next {
+            break;
         }
         at = step(table, list, buffer, at, kind, g);
-        spent = spent + 1;
     }
     at
 }

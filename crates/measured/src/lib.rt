@@ -3,33 +3,18 @@
 #![tactic(auto)]
 
 ghost use Rattle.std.specs.Prelude.{◌≡◌};
-ghost use Rattle.measured.specs.Measured.{number_of, classes_sum};
+ghost use Rattle.measured.specs.Measured.{classes_sum};
 
-use words::classes;
-use words::classes::Class;
-
-fn number_of(k: Class) -> u64
-    ensures { result ≡ number_of k }
-{
-    match k {
-        Class::Free => 0,
-        Class::NonLeaf => 1,
-        Class::Leaf => 2,
-        Class::Unlisted => 3,
-    }
-}
+use words::classes::class_of;
 
 // The sum of a number for each class, over some state numbers.
 #[unsafe(no_mangle)]
 pub extern "C" fn measured_classes(states: &[u8]) -> u64
     ensures { result ≡ classes_sum states.now }
 {
-    let mut sum: u64 = 0;
-    let mut i: usize = 0;
-    while i < states.len() {
-        let n = number_of(classes::class_of(states[i]));
-        sum = std::num::wrapping_add_u64(sum, n);
-        i = i + 1;
+    let mut sum = 0u64;
+    for s in states {
+        sum = sum.wrapping_add(class_of(*s) as u64);
     }
     sum
 }

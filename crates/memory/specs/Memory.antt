@@ -14,7 +14,6 @@ use Rattle.session.specs.Outcome.{Outcome, answered}
 use Rattle.session.specs.declared.Phase.{Phase}
 use Rattle.session.specs.declared.Phase.TheVariants.{Idle, Blackout}
 use Rattle.session.specs.declared.Session.{Session}
-use Rattle.memory.specs.declared.Turn.{Turn}
 
 -- ---- New
 
@@ -47,7 +46,12 @@ unfoldable pub on_page : Move → Session → List ℕ → ℕ → Outcome
 on_page m s t at =
     answered (first_of (page_tests m s (length t) at (page_at t at))) s t s (put_at t at (on_words (moved_by m s.clock) (words_at t at)))
 
--- behind 40 on the page's two words: the code, and the words if it is 0
+-- what a call on one page comes to: its code, and the page's two words if that is 0
+pub record Turn : Type 0 where
+  pub code : ℕ
+  pub words : PageWords
+
+-- behind 40 on the page's two words
 unfoldable pub page_turn : Move → Phase → ℕ → Clock → ℕ → PageWords → Turn
 page_turn m phase pages clock at w =
     record { code = first_of (turn_tests m phase pages clock at (page_of w)); words = on_words (moved_by m clock) w }

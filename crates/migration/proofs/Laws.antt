@@ -1,31 +1,34 @@
 -- What a call knows once its code is 0, what it answers from what it is told, and the numbers of the token's cases.
-use mathlib.Core.Path.{◌≡◌, refl, ap}
+use mathlib.Core.Path.{◌≡◌, refl, ap, ◌∙◌}
 use mathlib.Core.Bool.{Bool, true, false, cond, not, ◌||◌}
 use mathlib.Core.List.{List, [], ◌∷◌}
 use Prim.Native.Nat.{ℕ, ◌≤◌}
 use lib.Dec.{eqb, ltb}
 use lib.ListN.{length}
 use borrow.Author.Tests.{eqb-true, ltb-false}
+use Rattle.std.specs.Prelude.{Option, Some, None, unwrap_or, Result, Ok, Err}
 use Rattle.words.specs.Codes as codes
-use Rattle.refusals.specs.Refusals.{Test, ◌gives◌, first_of}
-use Rattle.refusals.proofs.Laws.{not-true, all_codes, first-all, refuses, refuses-coded}
+use Rattle.refusals.specs.Refusals.{Test, ◌gives◌, first_of, number_of}
+use Rattle.refusals.specs.declared.Refusal.{Refusal}
+use Rattle.refusals.proofs.Laws.{not-true, all_codes, first-all, refuses, refuses-coded, number-pos}
 use Rattle.page.specs.Page.{on_words, gives53, gives54}
 use Rattle.page.specs.Sweeps.{swept_by}
 use Rattle.page.specs.declared.sweeps.Sweep.{Sweep}
 use Rattle.page.specs.declared.sweeps.Sweep.TheVariants.{Track, Start, Pause}
-use Rattle.table.specs.Table.{page_count, sweep_of, lowest, some}
+use Rattle.table.specs.Table.{page_count, sweep_of, lowest, first_page, some}
 use Rattle.session.specs.Session.{phases_of, changed_by}
 use Rattle.session.specs.Formed.{busy, gate_tests, gated, behind}
 use Rattle.session.specs.Outcome.{Outcome, outcome, answered, answered_by}
 use Rattle.session.specs.declared.When.TheVariants as when
 use Rattle.session.specs.declared.Session.{Session}
-use Rattle.session.proofs.Laws.{Open, first_then, gate-first, behind-gate, gate-open, open-gate, verdict-answered, verdict-session, answered-either}
+use Rattle.session.specs.declared.changes.Change.TheVariants.{Nothing}
+use Rattle.session.proofs.Laws.{Open, first_then, gate-first, gate-refused, behind-gate, gate-open, open-gate, verdict-answered, verdict-session, answered-either}
 use Rattle.migration.specs.Migration.{sweep_when, stops_at, stopped, sweep_tests, sweep_change, sweep_next, sweep_code, sweep_verdict, on_all}
 use Rattle.migration.specs.Migration.{alone_when, alone_tests, alone_change, alone_next, alone_code, alone_verdict, alone_answer, on_session}
-use Rattle.migration.specs.Token.{TokenNumbers, token_says, token_gate, token_code, in_the_way, token_for, token_out, token_told, token_change}
+use Rattle.migration.specs.Token.{Granted, Refused, InTheWay, TokenNumbers, TokenAnswer, token_says, token_gate, token_code, in_the_way, token_for, token_out, token_told, token_change, refused_for, token_of, token_answer_of, token_found}
+use Rattle.migration.specs.declared.token.Obstacle.{Obstacle}
 use Rattle.migration.specs.declared.Alone.{Alone}
 use Rattle.migration.specs.declared.Alone.TheVariants.{NewEpoch, Reset, Abort}
-use Rattle.migration.specs.declared.token.Token.TheVariants.{Granted, Refused, InTheWay}
 
 -- ---- the calls on every page
 
@@ -65,6 +68,17 @@ sweep-told k s t gate stops e f =
     rw (behind-gate s (length t) (phases_of (sweep_when k)) (sweep_tests k s stops) (sweep_tests k s (stopped (stops_at k) t)) gate e
     (λ z. ap (λ (b : Bool). first_of (sweep_tests k s b)) (f z)))
     (verdict-answered _ (sweep_change k s.clock) s t (sweep_of (on_words (swept_by k)) t))
+
+-- a gate that refuses, and a verdict that does, give back what came
+pub sweep-gate : (k : Sweep) (s : Session) (t : List ℕ) (r : Refusal) → number_of r ≡ gated s (length t) (phases_of (sweep_when k)) [] →
+    outcome (number_of r) s t ≡ on_all k s t
+unfolding on_all sweep_code answered
+sweep-gate k s t r e =
+    rw (gate-refused s (length t) (phases_of (sweep_when k)) (sweep_tests k s (stopped (stops_at k) t)) r e, number-pos r)
+
+pub sweep-refused : (k : Sweep) (s : Session) (t : List ℕ) (r : Refusal) → answered_by (swept_by k) (number_of r) s s t ≡ outcome (number_of r) s t
+unfolding answered
+sweep-refused k s t r = rw (number-pos r)
 
 -- ---- the calls on the session alone
 
@@ -108,6 +122,12 @@ unfolding alone_verdict alone_answer alone_code
 alone-told k s len gate e =
     rw (e, ← gate-first s len (phases_of (alone_when k)) (alone_tests k s))
     (ap (λ (x : Session). record { code = alone_code k s len; session = x }) (verdict-session (alone_code k s len) (alone_change k s.epoch) s))
+
+-- a gate that refuses gives back what came
+pub alone-gate : (k : Alone) (s : Session) (len : ℕ) (r : Refusal) → number_of r ≡ gated s len (phases_of (alone_when k)) [] →
+    record { code = number_of r; session = s } ≡ alone_answer k s len
+unfolding alone_answer alone_code
+alone-gate k s len r e = rw (gate-refused s len (phases_of (alone_when k)) (alone_tests k s) r e, number-pos r)
 
 -- they leave the table
 pub alone-table : (k : Alone) (s : Session) (t : List ℕ) → (on_session k s t).table ≡ t
@@ -174,3 +194,37 @@ token-told s t gate pages first53 first54 e n f g =
     (λ y. rw (token-gated s t gate e, z, ← f (eqb-true _ _ z), ← g (eqb-true _ _ z) (ltb-false _ _ x), ← n, x, y))
     (λ y. rw (token-gated s t gate e, z, ← f (eqb-true _ _ z), ← g (eqb-true _ _ z) (ltb-false _ _ x), ← n, x, y))))
     (λ z. rw (token-gated s t gate e, z, z, no-page s t gate e))
+
+-- a refusal before the look at the table names no page
+pub token-refused : (s : Session) (t : List ℕ) (r : Refusal) → number_of r ≡ gated s (length t) (phases_of when.Blackout) (token_gate s) →
+    record { token = Refused (number_of r); session = s } ≡ token_out s t
+unfolding token_told
+token-refused s t r e =
+    rw (← token-told s t (number_of r) (page_count t) _ _ e refl (λ z. refl) (λ z h. refl), number-pos r)
+
+-- past it, the case is by what is found
+pub token-passed : (s : Session) (t : List ℕ) → 0 ≡ gated s (length t) (phases_of when.Blackout) (token_gate s) →
+    let token = token_found (first_page gives53 t) (first_page gives54 t) in
+    record { token = token; session = changed_by (token_change token) s } ≡ token_out s t
+unfolding token_told
+token-passed s t e = token-told s t 0 (page_count t) _ _ e refl (λ z. refl) (λ z h. refl)
+
+-- a refusal changes nothing
+pub refused-nothing : (code : ℕ) (page : Option ℕ) → token_change (refused_for code page) ≡ Nothing
+refused-nothing code None = refl
+refused-nothing code (Some page) = refl
+
+-- the numbers of the token that code gives as a `Result`
+pub token-says : (s : Session) (t : List ℕ) (r : Result Session Obstacle) → token_answer_of s r ≡ token_out s t →
+    token_says (token_of r) ≡ record { code = token_code s t; page = in_the_way (token_code s t) t }
+unfolding token_out
+token-says s t (Ok s') e = ap (λ (a : TokenAnswer). token_says a.token) e ∙ token-numbers (token_code s t) t
+token-says s t (Err o) e = ap (λ (a : TokenAnswer). token_says a.token) e ∙ token-numbers (token_code s t) t
+
+-- and of a refusal of it
+pub obstacle-says : (o : Obstacle) → token_says (refused_for (number_of o.refusal) o.page) ≡ record { code = number_of o.refusal; page = unwrap_or o.page 0 }
+obstacle-says o = go o.page
+  where
+    go : (p : Option ℕ) → token_says (refused_for (number_of o.refusal) p) ≡ record { code = number_of o.refusal; page = unwrap_or p 0 }
+    go None = refl
+    go (Some p) = refl

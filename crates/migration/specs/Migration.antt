@@ -1,27 +1,24 @@
 -- The calls on every page and those on the session alone, each in document 01's order.
-use Rattle.std.specs.Prelude.{Bool, false, List, [], ◌∷◌, ℕ, ◌+◌, leb, length}
+use Rattle.std.specs.Prelude.{Bool, false, List, [], ◌∷◌, ℕ, ◌+◌, leb, length, Option, Some, None}
 use Rattle.words.specs.Codes as codes
 use Rattle.refusals.specs.Refusals.{Test, ◌gives◌}
 use Rattle.page.specs.Page.{sought}
 use Rattle.page.specs.Sweeps.{swept_by}
 use Rattle.page.specs.declared.Clock.{Clock}
+use Rattle.page.specs.declared.queries.Sought.{Sought}
 use Rattle.page.specs.declared.queries.Sought.TheVariants.{Unstartable, Blocked}
 use Rattle.page.specs.declared.sweeps.Sweep.{Sweep}
 use Rattle.page.specs.declared.sweeps.Sweep.TheVariants.{Track, Start, Pause}
 use Rattle.table.specs.Table.{some}
 use Rattle.session.specs.Session.{phases_of, unchecked, ticked, changed_by}
 use Rattle.session.specs.Formed.{gated, behind, busy, last_epoch}
-use Rattle.session.specs.Outcome.{Outcome, answer_for, verdict_for, answered, answered_by}
+use Rattle.session.specs.Outcome.{Outcome, Answer, Verdict, answer_for, verdict_for, answered, answered_by}
 use Rattle.session.specs.declared.Phase.TheVariants.{Idle, Live, Blackout}
 use Rattle.session.specs.declared.When.{When}
 use Rattle.session.specs.declared.When.TheVariants as when
 use Rattle.session.specs.declared.Session.{Session}
-use Rattle.session.specs.declared.Answer.{Answer}
 use Rattle.session.specs.declared.changes.Change.{Change}
 use Rattle.session.specs.declared.changes.Change.TheVariants.{ToPhase, ToEpoch, ToClock, ToCheck, Begin}
-use Rattle.session.specs.declared.changes.Verdict.{Verdict}
-use Rattle.migration.specs.declared.Stops.{Stops}
-use Rattle.migration.specs.declared.Stops.TheVariants.{Never, At}
 use Rattle.migration.specs.declared.Alone.{Alone}
 use Rattle.migration.specs.declared.Alone.TheVariants.{NewEpoch, Reset, Abort}
 
@@ -34,14 +31,14 @@ sweep_when Start = when.Idle
 sweep_when Pause = when.Live
 
 -- start: any state outside 0 to 4, or strange; pause: any of 1, 3, 26, 31
-abbrev pub stops_at : Sweep → Stops
-stops_at Track = Never
-stops_at Start = At Unstartable
-stops_at Pause = At Blocked
+abbrev pub stops_at : Sweep → Option Sought
+stops_at Track = None
+stops_at Start = Some Unstartable
+stops_at Pause = Some Blocked
 
-abbrev pub stopped : Stops → List ℕ → Bool
-stopped Never t = false
-stopped (At kind) t = some (sought kind) t
+abbrev pub stopped : Option Sought → List ℕ → Bool
+stopped None t = false
+stopped (Some kind) t = some (sought kind) t
 
 -- track: 56 at the limit; start: 45 where a page stops it; pause: 48 where one does, then 43
 abbrev pub sweep_asks : Sweep → Clock → Bool → Bool → List Test

@@ -1,18 +1,40 @@
 -- The start token.
-use Rattle.std.specs.Prelude.{Bool, cond, not, ◌||◌, List, [], ◌∷◌, ◌++◌, ℕ, eqb, ltb, length}
+use Rattle.std.specs.Prelude.{Bool, cond, not, ◌||◌, List, [], ◌∷◌, ◌++◌, ℕ, eqb, length, Option, Some, None, Result, Ok, Err}
 use Rattle.words.specs.Codes as codes
-use Rattle.refusals.specs.Refusals.{Test, ◌gives◌}
+use Rattle.refusals.specs.Refusals.{Test, ◌gives◌, number_of}
 use Rattle.page.specs.Page.{gives53, gives54}
-use Rattle.table.specs.Table.{page_count, lowest, some}
+use Rattle.table.specs.Table.{page_count, lowest, some, found}
 use Rattle.session.specs.Session.{with_phase}
 use Rattle.session.specs.Formed.{gated, busy}
 use Rattle.session.specs.declared.Phase.TheVariants.{Blackout, Done}
 use Rattle.session.specs.declared.Session.{Session}
 use Rattle.session.specs.declared.changes.Change.{Change}
 use Rattle.session.specs.declared.changes.Change.TheVariants.{Nothing, ToPhase}
-use Rattle.migration.specs.declared.token.Token.{Token}
-use Rattle.migration.specs.declared.token.Token.TheVariants.{Granted, Refused, InTheWay}
-use Rattle.migration.specs.declared.token.TokenAnswer.{TokenAnswer}
+use Rattle.migration.specs.declared.token.Obstacle.{Obstacle}
+
+pub data Token : Type 0 where
+  Granted : Token
+  Refused : ℕ → Token
+  -- the lowest page that is in the way
+  InTheWay : ℕ → ℕ → Token
+
+pub record TokenAnswer : Type 0 where
+  pub token : Token
+  pub session : Session
+
+-- a refusal, with the page that it names or none
+abbrev pub refused_for : ℕ → Option ℕ → Token
+refused_for code None = Refused code
+refused_for code (Some page) = InTheWay code page
+
+-- the token, and the answer, that code gives as a `Result`: a refusal brings back the session that came
+abbrev pub token_of : {T : Type 0} → Result T Obstacle → Token
+token_of (Ok x) = Granted
+token_of (Err o) = refused_for (number_of o.refusal) o.page
+
+abbrev pub token_answer_of : Session → Result Session Obstacle → TokenAnswer
+token_answer_of s (Ok s') = record { token = Granted; session = s' }
+token_answer_of s (Err o) = record { token = refused_for (number_of o.refusal) o.page; session = s }
 
 pub record TokenNumbers : Type 0 where
   pub code : ℕ
@@ -58,12 +80,16 @@ unfoldable pub token_out : Session → List ℕ → TokenAnswer
 token_out s t =
     record { token = token_for (token_code s t) t; session = cond (eqb (token_code s t) codes.done) (with_phase s Done) s }
 
--- the case, told the code before 53, how many pages there are, and the lowest of them that give 53 and 54
+-- the case, told the lowest pages that give 53 and 54
+abbrev pub token_found : Option ℕ → Option ℕ → Token
+token_found (Some page) first54 = InTheWay codes.exported_dirty_pages_remain page
+token_found None (Some page) = InTheWay codes.unexported_memory_remains page
+token_found None None = Granted
+
+-- the same, told the code before 53, how many pages there are, and where the searches ended
 unfoldable pub token_told : ℕ → ℕ → ℕ → ℕ → Token
 token_told gate pages first53 first54 =
-    cond (not (eqb gate codes.done)) (Refused gate)
-    (cond (ltb first53 pages) (InTheWay codes.exported_dirty_pages_remain first53)
-    (cond (ltb first54 pages) (InTheWay codes.unexported_memory_remains first54) Granted))
+    cond (not (eqb gate codes.done)) (Refused gate) (token_found (found pages first53) (found pages first54))
 
 -- and what it changes: Done where it is granted
 abbrev pub token_change : Token → Change

@@ -2,16 +2,17 @@
 
 #![tactic(auto)]
 
-ghost use Rattle.std.specs.Prelude.{◌≡◌, ◌&&◌};
+ghost use Rattle.std.specs.Prelude.{◌≡◌};
+ghost use Rattle.session.specs.Outcome.{answer_of, verdict_of};
 ghost use Rattle.migration.specs.Migration.{sweep_when, stops_at, stopped, sweep_verdict, on_all};
 ghost use Rattle.migration.specs.Migration.{alone_when, alone_verdict, alone_answer};
 
 use page::Clock;
 use page::queries::Sought;
 use page::sweeps::Sweep;
-use session::changes::{Change, Verdict};
-use session::{Answer, Phase, Session, When, changes};
-use words::codes;
+use refusals::Refusal;
+use session::changes::Change;
+use session::{Phase, Session, When, changes};
 
 pub mod token;
 
@@ -28,91 +29,71 @@ pub fn sweep_when(k: Sweep) -> When
     }
 }
 
-// What in the table stops a call: nothing, or a page of a kind.
-#[derive(Clone, Copy)]
-pub enum Stops {
-    Never,
-    At { kind: Sought },
-}
-
-pub fn stops_at(k: Sweep) -> Stops
+// The kind of page that stops a call, if there is one.
+pub fn stops_at(k: Sweep) -> Option<Sought>
     ensures { result ≡ stops_at k }
 {
     match k {
-        Sweep::Track => Stops::Never,
-        Sweep::Start => Stops::At {
-            kind: Sought::Unstartable,
-        },
-        Sweep::Pause => Stops::At {
-            kind: Sought::Blocked,
-        },
+        Sweep::Track => None,
+        Sweep::Start => Some(Sought::Unstartable),
+        Sweep::Pause => Some(Sought::Blocked),
     }
 }
 
-// Whether the table has what stops a call. No page is looked at unless asked.
-fn is_stopped(asked: bool, table: &[u64], k: Stops) -> bool
-    ensures { result ≡ (asked && stopped k table.now) }
+// Whether the table has what stops a call.
+fn is_stopped(table: &[u64], stop: Option<Sought>) -> bool
+    ensures { result ≡ stopped stop table.now }
 {
-    if asked {
-        return match k {
-            Stops::Never => false,
-            Stops::At { kind } => table::has(table, kind),
-        };
-    }
-    false
+    stop.is_some_and(|kind| table::has(table, kind))
 }
 
-// What a call comes to: `gate` is its gate's code, and with 0 `stops` says whether a page stops it.
-pub fn sweep_verdict(k: Sweep, gate: u64, clock: Clock, busy: bool, stops: bool) -> Verdict
-    ensures { result ≡ sweep_verdict k gate clock busy stops }
+// What a call that has passed its gate comes to: `stops` says whether a page stops it.
+#[tactic(auto, unfolding(crate::specs::Migration::sweep_verdict))]
+pub fn sweep_verdict(k: Sweep, clock: Clock, busy: bool, stops: bool) -> Result<Change, Refusal>
+    ensures { verdict_of result ≡ sweep_verdict k 0 clock busy stops }
 {
-    if gate != codes::DONE {
-        return changes::refuse(gate);
-    }
     match k {
         Sweep::Track => {
             if session::LAST_EPOCH <= clock.tlb {
-                return changes::refuse(codes::TLB_EPOCH_AT_LIMIT);
+                return Err(Refusal::TlbEpochAtLimit);
             }
             let tlb = clock.tlb + 1;
-            changes::make(Change::ToClock {
+            Ok(Change::ToClock {
                 clock: Clock { tlb },
             })
         }
         Sweep::Start => {
             if stops {
-                return changes::refuse(codes::EPT_ENTRY_STATE_INCORRECT);
+                return Err(Refusal::EptEntryStateIncorrect);
             }
-            changes::make(Change::Begin {
+            Ok(Change::Begin {
                 phase: Phase::Live,
                 epoch: 1,
             })
         }
         Sweep::Pause => {
             if stops {
-                return changes::refuse(codes::BLOCKED_MEMORY_EXISTS);
+                return Err(Refusal::BlockedMemoryExists);
             }
             if busy {
-                return changes::refuse(codes::OPERAND_BUSY);
+                return Err(Refusal::OperandBusy);
             }
-            changes::make(Change::ToPhase {
+            Ok(Change::ToPhase {
                 phase: Phase::Blackout,
             })
         }
     }
 }
 
-pub fn on_all(k: Sweep, s: Session, table: &mut [u64]) -> Answer
-    ensures value { result ≡ (on_all k s table.old).answer }
+pub fn on_all(k: Sweep, s: Session, table: &mut [u64]) -> Result<Session, Refusal>
+    ensures value { answer_of s result ≡ (on_all k s table.old).answer }
     ensures table_after { table.new ≡ (on_all k s table.old).table }
 {
-    let gate = session::gate(s, table.len(), sweep_when(k));
-    let stops = is_stopped(gate == codes::DONE, &table[..], stops_at(k));
-    let busy = session::is_busy(s);
-    let made = sweep_verdict(k, gate, s.clock, busy, stops);
-    let change = made.change;
-    let next = changes::changed(s, change);
-    session::finish(made.code, s, next, table, k)
+    session::gate(s, table.len(), sweep_when(k))?;
+    let stops = is_stopped(&table[..], stops_at(k));
+    let change = sweep_verdict(k, s.clock, session::is_busy(s), stops)?;
+    table::sweep_all(table, k);
+    Ok(changes::changed(s, change))
 }
 
 // ---- the calls on the session alone, which ask of the table its length
@@ -129,50 +110,39 @@ pub fn alone_when(k: Alone) -> When
     ensures { result ≡ alone_when k }
 {
     match k {
-        Alone::NewEpoch => When::Moving,
-        Alone::Reset => When::Moving,
-        Alone::Abort => When::Moving,
+        Alone::NewEpoch | Alone::Reset | Alone::Abort => When::Moving,
     }
 }
 
-// What a call comes to: `gate` is its gate's code.
-pub fn alone_verdict(k: Alone, gate: u64, epoch: u64, busy: bool) -> Verdict
-    ensures { result ≡ alone_verdict k gate epoch busy }
+// What a call that has passed its gate comes to.
+#[tactic(auto, unfolding(crate::specs::Migration::alone_verdict))]
+pub fn alone_verdict(k: Alone, epoch: u64, busy: bool) -> Result<Change, Refusal>
+    ensures { verdict_of result ≡ alone_verdict k 0 epoch busy }
 {
-    if gate != codes::DONE {
-        return changes::refuse(gate);
-    }
     match k {
         Alone::NewEpoch => {
             if busy {
-                return changes::refuse(codes::OPERAND_BUSY);
+                return Err(Refusal::OperandBusy);
             }
             if session::LAST_EPOCH <= epoch {
-                return changes::refuse(codes::MIGRATION_EPOCH_OVERFLOW);
+                return Err(Refusal::MigrationEpochOverflow);
             }
-            changes::make(Change::ToEpoch { epoch: epoch + 1 })
+            Ok(Change::ToEpoch { epoch: epoch + 1 })
         }
-        Alone::Reset => {
-            let check = changes::no_check();
-            changes::make(Change::ToCheck { check })
-        }
-        Alone::Abort => changes::make(Change::Begin {
+        Alone::Reset => Ok(Change::ToCheck {
+            check: changes::no_check(),
+        }),
+        Alone::Abort => Ok(Change::Begin {
             phase: Phase::Idle,
             epoch: 0,
         }),
     }
 }
 
-pub fn on_session(k: Alone, s: Session, len: usize) -> Answer
-    ensures { result ≡ alone_answer k s len }
+pub fn on_session(k: Alone, s: Session, len: usize) -> Result<Session, Refusal>
+    ensures { answer_of s result ≡ alone_answer k s len }
 {
-    let gate = session::gate(s, len, alone_when(k));
-    let busy = session::is_busy(s);
-    let made = alone_verdict(k, gate, s.epoch, busy);
-    let change = made.change;
-    let session = changes::changed(s, change);
-    Answer {
-        code: made.code,
-        session,
-    }
+    session::gate(s, len, alone_when(k))?;
+    let change = alone_verdict(k, s.epoch, session::is_busy(s))?;
+    Ok(changes::changed(s, change))
 }

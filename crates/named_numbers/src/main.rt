@@ -5,34 +5,36 @@
 ghost use Rattle.std.specs.Prelude.{◌≡◌};
 ghost use Rattle.named_numbers.specs.Named.{code_numbers, state_numbers, status_numbers, operation_numbers, hint_numbers, restore_numbers};
 
+use refusals::{Ending, Refusal};
 use std::io::{self, BufWriter, Write};
-use words::{codes, hints, operations, states, statuses};
+use words::statuses::Failure;
+use words::{hints, operations, states, statuses};
 
 fn code_numbers() -> [u64; 21]
     ensures { result ≡ code_numbers }
 {
     [
-        codes::DONE,
-        codes::INTERRUPTED,
-        codes::LIST_FULL,
-        codes::CHECK_COMPLETE,
-        codes::MALFORMED,
-        codes::OP_STATE_INCORRECT,
-        codes::OPERAND_INVALID,
-        codes::OPERAND_BUSY,
-        codes::INVALID_RESUMPTION,
-        codes::EPT_ENTRY_STATE_INCORRECT,
-        codes::GPA_RANGE_NOT_BLOCKED,
-        codes::TLB_TRACKING_NOT_DONE,
-        codes::BLOCKED_MEMORY_EXISTS,
-        codes::BLOCKING_DISALLOWED,
-        codes::MEM_SCAN_RESET_REQUIRED,
-        codes::MEM_SCAN_FAILED_BLOCKED_RANGE,
-        codes::MEM_SCAN_DCHECK_NOT_DONE,
-        codes::EXPORTED_DIRTY_PAGES_REMAIN,
-        codes::UNEXPORTED_MEMORY_REMAINS,
-        codes::MIGRATION_EPOCH_OVERFLOW,
-        codes::TLB_EPOCH_AT_LIMIT,
+        Ending::Done as u64,
+        Ending::Interrupted as u64,
+        Ending::ListFull as u64,
+        Ending::CheckComplete as u64,
+        Refusal::Malformed as u64,
+        Refusal::OpStateIncorrect as u64,
+        Refusal::OperandInvalid as u64,
+        Refusal::OperandBusy as u64,
+        Refusal::InvalidResumption as u64,
+        Refusal::EptEntryStateIncorrect as u64,
+        Refusal::GpaRangeNotBlocked as u64,
+        Refusal::TlbTrackingNotDone as u64,
+        Refusal::BlockedMemoryExists as u64,
+        Refusal::BlockingDisallowed as u64,
+        Refusal::MemScanResetRequired as u64,
+        Ending::MemScanFailedBlockedRange as u64,
+        Refusal::MemScanDcheckNotDone as u64,
+        Refusal::ExportedDirtyPagesRemain as u64,
+        Refusal::UnexportedMemoryRemains as u64,
+        Refusal::MigrationEpochOverflow as u64,
+        Refusal::TlbEpochAtLimit as u64,
     ]
 }
 
@@ -83,13 +85,13 @@ fn status_numbers() -> [u64; 8]
 {
     [
         statuses::SUCCESS,
-        statuses::SKIPPED,
-        statuses::SEPT_WALK_FAILED,
-        statuses::SEPT_ENTRY_STATE_INCORRECT,
-        statuses::TLB_TRACKING_NOT_DONE,
-        statuses::MIGRATED_IN_CURRENT_EPOCH,
-        statuses::GPA_LIST_ENTRY_INVALID,
-        statuses::PAGE_DIRTY,
+        Failure::Skipped as u64,
+        Failure::SeptWalkFailed as u64,
+        Failure::SeptEntryStateIncorrect as u64,
+        Failure::TlbTrackingNotDone as u64,
+        Failure::MigratedInCurrentEpoch as u64,
+        Failure::GpaListEntryInvalid as u64,
+        Failure::PageDirty as u64,
     ]
 }
 
@@ -122,36 +124,21 @@ fn restore_numbers() -> [u64; 2]
     [operations::NOP, operations::RESTORE]
 }
 
-fn text(out: &mut impl Write, s: &[u8]) -> io::Result<()> {
-    out.write_all(s)
-}
-
-fn decimal(out: &mut impl Write, n: u64) -> io::Result<()> {
-    text(out, b" ")?;
-    write!(out, "{n}")
-}
-
-fn end(out: &mut impl Write) -> io::Result<()> {
-    text(out, b"\n")
-}
-
-fn list(out: &mut impl Write, name: &[u8], ns: &[u64]) -> io::Result<()> {
-    text(out, name)?;
-    let mut i = 0;
-    while i < ns.len() {
-        decimal(out, ns[i])?;
-        i += 1;
+fn list(out: &mut impl Write, name: &str, ns: &[u64]) -> io::Result<()> {
+    write!(out, "{name}")?;
+    for n in ns {
+        write!(out, " {n}")?;
     }
-    end(out)
+    writeln!(out)
 }
 
 fn main(rt: HostRuntime) -> io::Result<()> {
     let mut out = BufWriter::new(rt.alloc(), io::writer(&rt))?;
-    list(&mut out, b"codes", &code_numbers())?;
-    list(&mut out, b"states", &state_numbers())?;
-    list(&mut out, b"statuses", &status_numbers())?;
-    list(&mut out, b"operations", &operation_numbers())?;
-    list(&mut out, b"hints", &hint_numbers())?;
-    list(&mut out, b"restores", &restore_numbers())?;
+    list(&mut out, "codes", &code_numbers())?;
+    list(&mut out, "states", &state_numbers())?;
+    list(&mut out, "statuses", &status_numbers())?;
+    list(&mut out, "operations", &operation_numbers())?;
+    list(&mut out, "hints", &hint_numbers())?;
+    list(&mut out, "restores", &restore_numbers())?;
     out.flush()
 }

@@ -1,7 +1,6 @@
 -- Reading a page and writing it back undo each other; what a move makes of a page is what its words say afterwards.
 use mathlib.Core.Path.{◌≡◌, refl, sym, ap, ◌∙◌}
 use mathlib.Core.Bool.{Bool, true, false, cond, not, and-false, true≢false}
-use mathlib.Core.List.{List}
 use Prim.Native.Nat.{ℕ, ◌^◌, ◌<◌}
 use native.Mathlib.Omega.{arith}
 use lib.Dec.{eqb, lit<}
@@ -10,8 +9,8 @@ use Rattle.refusals.proofs.Laws.{and_left, and_right}
 use Rattle.records.specs.Record.{record_of, lowered, RecordFits, plain}
 use Rattle.records.specs.declared.Record.{Record}
 use Rattle.records.proofs.RecordLaws.{record-word, record-low, record-fits, word-lowered}
-use Rattle.states.specs.States.{Strange, Change, state_of, number_of, is_strange, goes_by, number_by}
-use Rattle.states.proofs.Laws.{number_lt, state-number, number-state, number_by_lem}
+use Rattle.states.specs.States.{Strange, state_of, number_of, is_strange}
+use Rattle.states.proofs.Laws.{number_lt, state-number, number-state}
 use Rattle.page.specs.Page.{Page, state_read, page_of, number_read, strange, record_for, words_for, on_words, unless_strange, tracked}
 use Rattle.page.specs.declared.Clock.{Clock}
 use Rattle.page.specs.declared.PageWords.{PageWords}
@@ -101,11 +100,6 @@ pub words-set : (f : Record → Record) (w : PageWords) (v : ℕ) (q : Page) →
 words-set f w v q l e x y =
     ap (λ (n : ℕ). record { word = n; mark = q.mark }) (word-lowered v (record_for q) l (x ∙ ap f (sym (read-record w e)) ∙ y))
 
--- where a call takes a page that is not strange, by its state's number
-pub goal-number : (l : List Change) (w : PageWords) (n : ℕ) → strange (page_of w) ≡ false → n ≡ number_read (record_of w.word) →
-    number_by l n ≡ number_of (goes_by l (page_of w).state)
-goal-number l w n e q = ap (number_by l) (q ∙ read_number w e) ∙ number_by_lem l (page_of w).state
-
 -- ---- moves
 
 -- a strange record stays
@@ -131,3 +125,13 @@ page_moved f w h = by (strange (page_of w)) refl
 pub now-untracked : (clock : Clock) → tracked clock.tlb clock ≡ false
 unfolding tracked
 now-untracked clock = rw (le-ltb clock.tlb clock.tlb (omega arith)) (and-false (not (eqb clock.tlb 0)))
+
+-- what becomes of a page's words, by whether it is strange
+pub on-words : (f : Page → Page) (w r : PageWords) → (strange (page_of w) ≡ true → r ≡ w) → (strange (page_of w) ≡ false → r ≡ words_for (f (page_of w))) →
+    r ≡ on_words f w
+unfolding on_words
+on-words f w r stays made = by (strange (page_of w)) stays made
+  where
+    by : (b : Bool) → (b ≡ true → r ≡ w) → (b ≡ false → r ≡ words_for (f (page_of w))) → r ≡ cond b w (words_for (f (page_of w)))
+    by true s m = s refl
+    by false s m = m refl

@@ -5,10 +5,12 @@
 
 #![tactic(auto)]
 
-ghost use Rattle.std.specs.Prelude.{◌≡◌};
+ghost use Rattle.std.specs.Prelude.{◌≡◌, true, false};
 ghost use Rattle.records.specs.Record.{record_of};
-ghost use Rattle.states.specs.States.{state_of};
-ghost use Rattle.page.specs.Page.{page_of, number_read};
+ghost use Rattle.states.specs.States.{state_of, number_of};
+ghost use Rattle.page.specs.Page.{page_of, number_read, strange};
+
+use records::Record;
 
 // What is asked of a page.
 pub mod queries;
@@ -18,7 +20,7 @@ pub mod moves;
 pub mod sweeps;
 
 // Word 0 is the page's record, word 1 its mark.
-#[derive(Clone, Copy)]
+#[derive(Clone, Copy, PartialEq, Eq)]
 pub struct PageWords {
     pub word: u64,
     pub mark: u64,
@@ -38,7 +40,20 @@ pub fn state_of(w: PageWords) -> u8
     ensures value { result ≡ number_read (record_of w.word) }
     ensures result_value { state_of result ≡ (page_of w).state }
 {
-    let p = records::record_of(w.word);
+    let p = Record::from(w.word);
     let plain = records::is_plain(w.word);
     if plain { p.state } else { STRANGE }
+}
+
+// What is made of a page's two words: a strange record stays as it is, and `make` is told the number of any other state.
+pub fn unless_strange<F: FnOnce(u8) -> PageWords>(w: PageWords, make: F) -> PageWords
+    requires { F.IsAlwaysCallable make }
+    ensures stays { strange (page_of w) ≡ true → result ≡ w }
+    ensures made { strange (page_of w) ≡ false → F.post make (number_of (page_of w).state) result }
+{
+    let n = state_of(w);
+    if states::is_strange(n) {
+        return w;
+    }
+    make(n)
 }

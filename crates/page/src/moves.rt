@@ -1,14 +1,14 @@
 // The guest and memory calls on one page: what each asks of the page, and what it makes of it.
 ghost use Rattle.std.specs.Prelude.{◌≡◌, false, not, [], ◌∷◌, eqb};
 ghost use Rattle.words.specs.Codes as codes;
-ghost use Rattle.refusals.specs.Refusals.{◌gives◌, first_of};
+ghost use Rattle.refusals.specs.Refusals.{◌gives◌, first_of, code_of};
 ghost use Rattle.states.specs.States.{State, number_of, number_by, goes_by};
 ghost use Rattle.page.specs.Page.{page_of, words_for, strange, on_words};
 ghost use Rattle.page.specs.Moves.{changes_of, is_block, is_write, writable, move_tests, stored, emptied, restamped, moved_by};
 
 use crate::{Clock, PageWords, queries};
 use records::Record;
-use words::codes;
+use refusals::Refusal;
 
 // A call on one page, with what it brings.
 #[derive(Clone, Copy)]
@@ -39,28 +39,14 @@ fn goal(m: Move, n: u8) -> u8
 pub fn is_block(m: Move) -> bool
     ensures { result ≡ is_block m }
 {
-    match m {
-        Move::Write { mark: _ } => false,
-        Move::Add => false,
-        Move::Accept => false,
-        Move::Block => true,
-        Move::Unblock => false,
-        Move::Remove => false,
-    }
+    matches!(m, Move::Block)
 }
 
 // While Idle a page that a migration left takes no other call.
 pub fn is_write(m: Move) -> bool
     ensures { result ≡ is_write m }
 {
-    match m {
-        Move::Write { mark: _ } => true,
-        Move::Add => false,
-        Move::Accept => false,
-        Move::Block => false,
-        Move::Unblock => false,
-        Move::Remove => false,
-    }
+    matches!(m, Move::Write { mark: _ })
 }
 
 // ---- what a call asks of its page
@@ -70,50 +56,49 @@ fn is_writable(w: PageWords) -> bool
     ensures { result ≡ writable (page_of w) }
 {
     let n = crate::state_of(w);
-    let p = records::record_of(w.word);
+    let p = Record::from(w.word);
     states::is_writable(n) | (states::is_landing(n) & p.cached)
 }
 
 // 45 where the state has no such move.
-fn enter_code(able: bool) -> u64
-    ensures { result ≡ first_of (not able gives codes.ept_entry_state_incorrect ∷ []) }
+fn allow_enter(able: bool) -> Result<(), Refusal>
+    ensures { code_of result ≡ first_of (not able gives codes.ept_entry_state_incorrect ∷ []) }
 {
-    if able {
-        codes::DONE
-    } else {
-        codes::EPT_ENTRY_STATE_INCORRECT
+    if !able {
+        return Err(Refusal::EptEntryStateIncorrect);
     }
+    Ok(())
 }
 
 // 46 where the page is not blocked, then 47 while old translations of it may be about.
-fn leave_code(able: bool, tracked: bool) -> u64
-    ensures { result ≡ first_of (not able gives codes.gpa_range_not_blocked ∷ not tracked gives codes.tlb_tracking_not_done ∷ []) }
+fn allow_leave(able: bool, tracked: bool) -> Result<(), Refusal>
+    ensures { code_of result ≡ first_of (not able gives codes.gpa_range_not_blocked ∷ not tracked gives codes.tlb_tracking_not_done ∷ []) }
 {
     if !able {
-        return codes::GPA_RANGE_NOT_BLOCKED;
+        return Err(Refusal::GpaRangeNotBlocked);
     }
     if !tracked {
-        return codes::TLB_TRACKING_NOT_DONE;
+        return Err(Refusal::TlbTrackingNotDone);
     }
-    codes::DONE
+    Ok(())
 }
 
 // The first of its tests that holds.
-pub fn move_code(m: Move, w: PageWords, clock: Clock) -> u64
-    ensures { result ≡ first_of (move_tests m (page_of w) clock) }
+pub fn allow_move(m: Move, w: PageWords, clock: Clock) -> Result<(), Refusal>
+    ensures { code_of result ≡ first_of (move_tests m (page_of w) clock) }
 {
     let n = crate::state_of(w);
-    let p = records::record_of(w.word);
+    let p = Record::from(w.word);
     let able = goal(m, n) != n;
     let tracked = queries::is_tracked(p.stamp, clock);
     let writable = is_writable(w);
     match m {
-        Move::Write { mark: _ } => enter_code(writable),
-        Move::Add => enter_code(able),
-        Move::Accept => enter_code(able),
-        Move::Block => enter_code(able),
-        Move::Unblock => leave_code(able, tracked),
-        Move::Remove => leave_code(able, tracked),
+        Move::Write { mark: _ } => allow_enter(writable),
+        Move::Add => allow_enter(able),
+        Move::Accept => allow_enter(able),
+        Move::Block => allow_enter(able),
+        Move::Unblock => allow_leave(able, tracked),
+        Move::Remove => allow_leave(able, tracked),
     }
 }
 
@@ -122,7 +107,7 @@ pub fn move_code(m: Move, w: PageWords, clock: Clock) -> u64
 fn store(w: PageWords, mark: u64) -> PageWords
     ensures { strange (page_of w) ≡ false → result ≡ words_for (stored (page_of w) mark) }
 {
-    let p = records::record_of(w.word);
+    let p = Record::from(w.word);
     let writable = states::is_writable(crate::state_of(w));
     let seen = records::set_dirty(w.word, p.dirty | (writable & !p.cached));
     let word = records::set_cached(seen, true);
@@ -133,8 +118,8 @@ fn store(w: PageWords, mark: u64) -> PageWords
 fn empty(w: PageWords, to: u8) -> PageWords
     ensures { (s : State) → strange (page_of w) ≡ false → to ≡ number_of s → result ≡ words_for (emptied (page_of w) s) }
 {
-    let p = records::record_of(w.word);
-    let word = records::record_word(Record {
+    let p = Record::from(w.word);
+    let word = u64::from(Record {
         state: to,
         dirty: false,
         cached: false,
@@ -172,10 +157,5 @@ fn moved(m: Move, w: PageWords, to: u8, clock: Clock) -> PageWords
 pub fn move_words(m: Move, w: PageWords, clock: Clock) -> PageWords
     ensures { result ≡ on_words (moved_by m clock) w }
 {
-    let n = crate::state_of(w);
-    let after = moved(m, w, goal(m, n), clock);
-    if states::is_strange(n) {
-        return w;
-    }
-    after
+    crate::unless_strange(w, |n| moved(m, w, goal(m, n), clock))
 }

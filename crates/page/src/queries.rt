@@ -3,6 +3,7 @@ ghost use Rattle.std.specs.Prelude.{◌≡◌};
 ghost use Rattle.page.specs.Page.{page_of, tracked, strange, blocked, left, unstartable, gives53, gives54, sought};
 
 use crate::{Clock, PageWords};
+use records::Record;
 
 // Every translation from before the stamp is gone.
 pub fn is_tracked(stamp: u64, clock: Clock) -> bool
@@ -42,7 +43,7 @@ fn gives_53(w: PageWords) -> bool
     ensures { result ≡ gives53 (page_of w) }
 {
     let n = crate::state_of(w);
-    let p = records::record_of(w.word);
+    let p = Record::from(w.word);
     states::is_changed(n) | (states::is_sent(n) & p.dirty)
 }
 

@@ -5,6 +5,7 @@ ghost use Rattle.page.specs.Page.{page_of, words_for, strange, on_words};
 ghost use Rattle.page.specs.Sweeps.{uncached, refreshed, restored, swept_by};
 
 use crate::PageWords;
+use records::Record;
 
 // No processor has its translation any more.
 fn uncache(w: PageWords) -> PageWords
@@ -24,7 +25,7 @@ fn kept_stamp(stamped: bool, stamp: u64) -> u64
 fn refresh(w: PageWords, to: u8) -> PageWords
     ensures { (s : State) → strange (page_of w) ≡ false → to ≡ number_of s → result ≡ words_for (refreshed (page_of w) s) }
 {
-    let p = records::record_of(w.word);
+    let p = Record::from(w.word);
     let stamp = kept_stamp(states::is_stamped(to), p.stamp);
     let moved = records::set_state(w.word, to);
     let stamped = records::set_stamp(moved, stamp);
@@ -54,21 +55,12 @@ fn swept(k: Sweep, w: PageWords, n: u8) -> PageWords
 pub fn sweep_words(k: Sweep, w: PageWords) -> PageWords
     ensures { result ≡ on_words (swept_by k) w }
 {
-    let n = crate::state_of(w);
-    if states::is_strange(n) {
-        return w;
-    }
-    swept(k, w, n)
+    crate::unless_strange(w, |n| swept(k, w, n))
 }
 
 // The page's two words once it is restored.
 pub fn restore_words(w: PageWords) -> PageWords
     ensures { result ≡ on_words restored w }
 {
-    let n = crate::state_of(w);
-    let after = refresh(w, states::restore_of(n));
-    if states::is_strange(n) {
-        return w;
-    }
-    after
+    crate::unless_strange(w, |n| refresh(w, states::restore_of(n)))
 }

@@ -1,13 +1,15 @@
 // Word 0 of a page record: seven runs that fill the word. Word 1, the mark, is one number and has no runs.
 
-#![tactic(auto)]
+#![tactic(auto, unfolding(crate::specs::Record::record_of, crate::specs::Record::plain))]
 
 ghost use Rattle.std.specs.Prelude.{◌≡◌};
 ghost use Rattle.words.specs.Runs.{low};
 ghost use Rattle.records.specs.Record.{record_of, record_word, RecordFits, plain};
 ghost use Rattle.records.specs.Record.{with_state, with_dirty, with_cached, with_stamp, with_migrated};
 
-#[derive(Clone, Copy)]
+use words::bits::{placed, put, read};
+
+#[derive(Clone, Copy, Debug, PartialEq, Eq)]
 pub struct Record {
     pub state: u8,
     pub dirty: bool,
@@ -20,39 +22,42 @@ pub struct Record {
 }
 
 // The word, taken apart.
-pub fn record_of(w: u64) -> Record
-    ensures value { result ≡ record_of w }
-    ensures record_fits { RecordFits result }
-{
-    Record {
-        state: (w & 0xff) as u8,
-        dirty: (w >> 8) & 0x1 == 1,
-        cached: (w >> 9) & 0x1 == 1,
-        spare10: (w >> 10) & 0x3f,
-        stamp: (w >> 16) & 0xffff,
-        migrated: (w >> 32) & 0xffff,
-        spare48: (w >> 48) & 0xffff,
+impl From<u64> for Record {
+    ghost from_gives = { λ w p. (p ≡ record_of w) × RecordFits p };
+
+    fn from(w: u64) -> Self {
+        Self {
+            state: read::<7, 0>(w) as u8,
+            dirty: read::<8, 8>(w) == 1,
+            cached: read::<9, 9>(w) == 1,
+            spare10: read::<15, 10>(w),
+            stamp: read::<31, 16>(w),
+            migrated: read::<47, 32>(w),
+            spare48: read::<63, 48>(w),
+        }
     }
 }
 
 // The word whose runs these are: each number's low bits.
-pub fn record_word(p: Record) -> u64
-    ensures { result ≡ record_word p }
-{
-    (p.state as u64)
-        | ((p.dirty as u64) << 8)
-        | ((p.cached as u64) << 9)
-        | ((p.spare10 & 0x3f) << 10)
-        | ((p.stamp & 0xffff) << 16)
-        | ((p.migrated & 0xffff) << 32)
-        | ((p.spare48 & 0xffff) << 48)
+impl From<Record> for u64 {
+    ghost from_gives = { λ p w. w ≡ record_word p };
+
+    fn from(p: Record) -> Self {
+        placed::<7, 0>(u64::from(p.state))
+            | placed::<8, 8>(u64::from(p.dirty))
+            | placed::<9, 9>(u64::from(p.cached))
+            | placed::<15, 10>(p.spare10)
+            | placed::<31, 16>(p.stamp)
+            | placed::<47, 32>(p.migrated)
+            | placed::<63, 48>(p.spare48)
+    }
 }
 
 // No spare bit is set.
 pub fn is_plain(w: u64) -> bool
     ensures { result ≡ plain (record_of w) }
 {
-    w & ((0x3f << 10) | (0xffff << 48)) == 0
+    read::<15, 10>(w) == 0 && read::<63, 48>(w) == 0
 }
 
 // Each setter gives the word with another value in its field, a number's low bits, and every other bit as it was.
@@ -60,29 +65,29 @@ pub fn is_plain(w: u64) -> bool
 pub fn set_state(w: u64, v: u8) -> u64
     ensures { record_of result ≡ with_state (record_of w) v }
 {
-    (w & !0xff) | (v as u64)
+    put::<7, 0>(w, u64::from(v))
 }
 
 pub fn set_dirty(w: u64, v: bool) -> u64
     ensures { record_of result ≡ with_dirty (record_of w) v }
 {
-    (w & !(0x1 << 8)) | ((v as u64) << 8)
+    put::<8, 8>(w, u64::from(v))
 }
 
 pub fn set_cached(w: u64, v: bool) -> u64
     ensures { record_of result ≡ with_cached (record_of w) v }
 {
-    (w & !(0x1 << 9)) | ((v as u64) << 9)
+    put::<9, 9>(w, u64::from(v))
 }
 
 pub fn set_stamp(w: u64, v: u64) -> u64
     ensures { record_of result ≡ with_stamp (record_of w) (low 16 v) }
 {
-    (w & !(0xffff << 16)) | ((v & 0xffff) << 16)
+    put::<31, 16>(w, v)
 }
 
 pub fn set_migrated(w: u64, v: u64) -> u64
     ensures { record_of result ≡ with_migrated (record_of w) (low 16 v) }
 {
-    (w & !(0xffff << 32)) | ((v & 0xffff) << 32)
+    put::<47, 32>(w, v)
 }

@@ -6,7 +6,9 @@ use Prim.Native.Nat.{ℕ, zero, suc, ◌≤◌, ◌<◌}
 use native.Mathlib.Omega.{arith}
 use lib.Dec.{leb, ltb, eqb}
 use borrow.Author.Tests.{leb-true, ltb-true, lt-ltb, eqb-false}
-use Rattle.refusals.specs.Refusals.{Test, first_of}
+use Rattle.refusals.specs.Refusals.{Test, first_of, number_of}
+use Rattle.refusals.specs.declared.Refusal.{Refusal}
+use Rattle.refusals.specs.declared.Refusal.TheVariants as refusal
 
 -- what holds either way holds of what a test picks
 pub either : {A : Type 0} (P : A → Type 0) (b : Bool) {x y : A} → (b ≡ true → P x) → (b ≡ false → P y) → P (cond b x y)
@@ -141,3 +143,24 @@ ended (t ∷ l) n h k e = go (eqb t.code n) refl t.holds refl k e (ended l n h)
     go true q false x k e r = absurd (absent-code l n h k e)
     go false q true x k e r = absurd (eqb-false t.code n q e)
     go false q false x k e r = (x, r k e)
+
+-- ---- a code as a `Result`
+
+-- no refusal has code 0
+pub number-pos : (r : Refusal) → eqb (number_of r) 0 ≡ false
+number-pos refusal.Malformed = refl
+number-pos refusal.OpStateIncorrect = refl
+number-pos refusal.OperandInvalid = refl
+number-pos refusal.OperandBusy = refl
+number-pos refusal.InvalidResumption = refl
+number-pos refusal.EptEntryStateIncorrect = refl
+number-pos refusal.GpaRangeNotBlocked = refl
+number-pos refusal.TlbTrackingNotDone = refl
+number-pos refusal.BlockedMemoryExists = refl
+number-pos refusal.BlockingDisallowed = refl
+number-pos refusal.MemScanResetRequired = refl
+number-pos refusal.MemScanDcheckNotDone = refl
+number-pos refusal.ExportedDirtyPagesRemain = refl
+number-pos refusal.UnexportedMemoryRemains = refl
+number-pos refusal.MigrationEpochOverflow = refl
+number-pos refusal.TlbEpochAtLimit = refl

@@ -20,8 +20,7 @@ use Rattle.wire.specs.Bytes.{words_of}
 use Rattle.wire.specs.Sessions.{session_of}
 use Rattle.wire.proofs.BytesLaws.{words_back, words_small}
 use Rattle.wire.proofs.Promises.{reads-back}
-use Rattle.host.specs.Host.{Left, refused, numbers_of}
-use Rattle.host.specs.declared.answers.Numbers.{Numbers}
+use Rattle.host.specs.Host.{Numbers, Left, refused, numbers_of}
 use Rattle.rehearsal.specs.Small.{WordsIn}
 use Rattle.rehearsal.specs.Rehearsal.{Function, new, write, add, accept, block, unblock, remove, track, start, pause, abort, new_epoch, reset, start_token}
 use Rattle.rehearsal.specs.Rehearsal.{dscan, dcheck, export, restore, Operands, call_of, epoch_word, logged_by, Host, left_in, after, run, AllOperands}

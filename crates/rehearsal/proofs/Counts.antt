@@ -20,17 +20,15 @@ use Rattle.session.specs.declared.Session.{Session}
 use Rattle.session.proofs.FormedLaws.{formed-means}
 use Rattle.migration.specs.Token.{TokenNumbers, in_the_way, token_code, token_out}
 use Rattle.migration.proofs.Laws.{token-numbers}
-use Rattle.scan.specs.Scan.{written_of, answer_of, ScanOutcome, dscan_of, dcheck_of}
+use Rattle.scan.specs.Scan.{Scanned, written_of, answer_of, ScanOutcome, dscan_of, dcheck_of}
 use Rattle.scan.specs.declared.Written.{Written}
-use Rattle.scan.specs.declared.Scanned.{Scanned}
 use Rattle.scan.proofs.Laws.{dscan-fits, dcheck-fits}
 use Rattle.scan.proofs.Outcomes.{dscan-either, dcheck-either}
 use Rattle.lists.specs.Run.{standing}
 use Rattle.lists.specs.List.{is_over, info_back}
 use Rattle.lists.proofs.Laws.{Bounds, run-bounds}
 use Rattle.entry.specs.Entry.{ground_of}
-use Rattle.export.specs.Export.{mac_pages, export_code, export_step, begun_by, finished_by, ExportOutcome, export_out}
-use Rattle.export.specs.declared.ExportAnswer.{ExportAnswer}
+use Rattle.export.specs.Export.{ExportAnswer, mac_pages, export_code, export_step, begun_by, finished_by, ExportOutcome, export_out}
 use Rattle.export.proofs.Laws.{macs-few, export-ready}
 use Rattle.export.proofs.Moves.{exported}
 use Rattle.restore.specs.Restore.{ended_at, RestoreOutcome}

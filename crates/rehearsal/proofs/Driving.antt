@@ -22,8 +22,7 @@ use Rattle.history.specs.Earning as earning
 use Rattle.wire.specs.Bytes.{words_of, bytes_of, Words}
 use Rattle.wire.proofs.BytesLaws.{bytes-length, words_back, zero-bytes}
 use Rattle.wire.proofs.Promises.{zeros-bytes}
-use Rattle.host.specs.Host.{Left, is_list, numbers_of}
-use Rattle.host.specs.declared.answers.Numbers.{Numbers}
+use Rattle.host.specs.Host.{Numbers, Left, is_list, numbers_of}
 use Rattle.rehearsal.specs.Rehearsal.{new_epoch, reset, Operands, Host, left_in, after, run}
 use Rattle.rehearsal.specs.Driver.{asking, entry_bytes, Checked, checked, check, exporting, driven}
 use Rattle.rehearsal.specs.Promises.{is_played, given_by, Engines}

@@ -25,8 +25,7 @@ use Rattle.history.proofs.Memory.{remembers}
 use Rattle.history.proofs.Safety.{safe, entries_fit}
 use Rattle.wire.specs.Bytes.{words_of, Words}
 use Rattle.wire.specs.Sessions.{session_words}
-use Rattle.host.specs.Host.{lent, in_layout, leaving, played}
-use Rattle.host.specs.declared.answers.Numbers.{Numbers}
+use Rattle.host.specs.Host.{Numbers, lent, in_layout, leaving, played}
 use Rattle.host.proofs.LayoutLaws.{host-left, host-none}
 use Rattle.chirpsteeple.specs.Functions.{new_left}
 use Rattle.rehearsal.specs.Rehearsal.{start_token, accepted, Host, new_host, Rehearsal, at_end}

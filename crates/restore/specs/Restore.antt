@@ -1,9 +1,10 @@
 -- RESTORE of a list.
-use Rattle.std.specs.Prelude.{Bool, cond, List, [], ◌∷◌, ◌++◌, ℕ, eqb, ltb, length}
+use Rattle.std.specs.Prelude.{Bool, cond, List, [], ◌∷◌, ◌++◌, ℕ, eqb, ltb, length, Result, Ok, Err}
 use Rattle.words.specs.Codes as codes
 use Rattle.words.specs.Info.{info_of}
 use Rattle.words.specs.declared.infos.Info.{Info}
-use Rattle.refusals.specs.Refusals.{Test, ◌gives◌}
+use Rattle.refusals.specs.Refusals.{Test, ◌gives◌, number_of, ending_number}
+use Rattle.refusals.specs.declared.Refusal.{Refusal}
 use Rattle.session.specs.Formed.{gated}
 use Rattle.session.specs.declared.Phase.TheVariants.{Idle}
 use Rattle.session.specs.declared.Session.{Session}
@@ -14,8 +15,27 @@ use Rattle.lists.specs.Run.{Standing, standing, list_run}
 use Rattle.lists.specs.List.{list_tests, is_over, info_back}
 use Rattle.lists.specs.declared.Kind.TheVariants.{Restore}
 use Rattle.lists.specs.declared.runs.Progress.{Progress}
-use Rattle.restore.specs.declared.Ended.{Ended}
-use Rattle.restore.specs.declared.ListAnswer.{ListAnswer}
+use Rattle.restore.specs.declared.Ended as ended
+use Rattle.restore.specs.declared.ListAnswer as answer
+
+-- how a call ends
+pub record Ended : Type 0 where
+  pub code : ℕ
+  pub info : ℕ
+
+abbrev pub end_of : ended.Ended → Ended
+end_of e = record { code = ending_number e.ending; info = e.info }
+
+-- what it answers
+pub record ListAnswer : Type 0 where
+  pub code : ℕ
+  pub info : ℕ
+  pub session : Session
+
+-- a refusal has the info word 0, and brings back the session that came
+abbrev pub list_answer_of : Session → Result answer.ListAnswer Refusal → ListAnswer
+list_answer_of s (Ok a) = record { code = ending_number a.ending; info = a.info; session = a.session }
+list_answer_of s (Err r) = record { code = number_of r; info = 0; session = s }
 
 -- ---- the tests
 

@@ -3,39 +3,32 @@
 #![tactic(auto)]
 
 ghost use Rattle.std.specs.Prelude.{◌≡◌};
-ghost use Rattle.session.specs.Formed.{behind};
-ghost use Rattle.restore.specs.Restore.{restore_asks, begun_at, ended_at, RestoreOutcome, restore_out};
+ghost use Rattle.refusals.specs.Refusals.{first_of, code_of};
+ghost use Rattle.restore.specs.Restore.{restore_asks, begun_at, end_of, ended_at, list_answer_of, restore_out};
 
 use lists::runs::Progress;
 use lists::{Kind, runs};
+use refusals::{Ending, Refusal};
 use session::{Session, When};
 use words::infos::Info;
-use words::{codes, infos};
 
+// What a RESTORE answers that is not refused.
 #[derive(Clone, Copy)]
 pub struct ListAnswer {
-    pub code: u64,
+    pub ending: Ending,
     pub info: u64,
     pub session: Session,
 }
 
-// `gate` is the code of what stands before.
-pub fn restore_code(gate: u64, entries: usize, x: Info) -> u64
-    ensures { result ≡ behind gate (restore_asks entries x) }
+// The first of a RESTORE's own tests that holds.
+pub fn allow_restore(entries: usize, x: Info) -> Result<(), Refusal>
+    ensures { code_of result ≡ first_of (restore_asks entries x) }
 {
-    let listed = lists::list_code(entries, x);
-    let no_list = listed != codes::DONE;
-    let first_beyond = x.last < x.first;
-    if gate != codes::DONE {
-        return gate;
+    lists::allow_list(entries, x)?;
+    if x.last < x.first {
+        return Err(Refusal::OperandInvalid);
     }
-    if no_list {
-        return listed;
-    }
-    if first_beyond {
-        return codes::OPERAND_INVALID;
-    }
-    codes::DONE
+    Ok(())
 }
 
 // Every call begins at FIRST.
@@ -52,24 +45,20 @@ pub fn begin(x: Info) -> Progress
 // How a call ends.
 #[derive(Clone, Copy)]
 pub struct Ended {
-    pub code: u64,
+    pub ending: Ending,
     pub info: u64,
 }
 
 pub fn end(x: Info, next: u64) -> Ended
-    ensures { result ≡ ended_at x next }
+    ensures { end_of result ≡ ended_at x next }
 {
     let info = lists::info_back(x, next);
-    if lists::is_over(x, next) {
-        return Ended {
-            code: codes::DONE,
-            info,
-        };
-    }
-    Ended {
-        code: codes::INTERRUPTED,
-        info,
-    }
+    let ending = if lists::is_over(x, next) {
+        Ending::Done
+    } else {
+        Ending::Interrupted
+    };
+    Ended { ending, info }
 }
 
 // The entries from FIRST on, while the budget lasts.
@@ -79,30 +68,23 @@ pub fn restore(
     list: &mut [u64],
     info: u64,
     budget: u64,
-) -> ListAnswer
-    ensures value { result ≡ (restore_out s table.old list.old info budget).answer }
+) -> Result<ListAnswer, Refusal>
+    ensures value { list_answer_of s result ≡ (restore_out s table.old list.old info budget).answer }
     ensures table_after { table.new ≡ (restore_out s table.old list.old info budget).table }
     ensures list_after { list.new ≡ (restore_out s table.old list.old info budget).list }
 {
-    let x = infos::info_of(info);
-    let gate = session::gate(s, table.len(), When::Idle);
-    let code = restore_code(gate, list.len(), x);
-    if code != codes::DONE {
-        return ListAnswer {
-            code,
-            info: 0,
-            session: s,
-        };
-    }
+    session::gate(s, table.len(), When::Idle)?;
+    let x = Info::from(info);
+    allow_restore(list.len(), x)?;
     let g = entry::ground_of(s);
     let from = begin(x);
     let mut none = [0u64; 0];
     let buffer: &mut [u64] = &mut none;
     let at = runs::run_entries(table, list, buffer, from, x.last, budget, Kind::Restore, g);
     let ended = end(x, at.next);
-    ListAnswer {
-        code: ended.code,
+    Ok(ListAnswer {
+        ending: ended.ending,
         info: ended.info,
         session: s,
-    }
+    })
 }

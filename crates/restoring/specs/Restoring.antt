@@ -8,13 +8,13 @@ use Rattle.refusals.specs.Refusals.{Test, ◌gives◌, first_of}
 use Rattle.page.specs.Page.{Page, page_of, on_words, left}
 use Rattle.page.specs.Sweeps.{restored}
 use Rattle.page.specs.declared.PageWords.{PageWords}
+use Rattle.entry.specs.Entry.{plain}
 use Rattle.entry.specs.declared.Ground.{Ground}
 use Rattle.entry.specs.declared.Taken.{Taken}
 
 -- reserved bits, LEVEL, MIG_TYPE or STATE not 0; no OPERATION is a fault
 unfoldable pub faulty : Entry → Bool
-faulty e =
-    not (eqb e.reserved5 0 && eqb e.reserved54 0 && eqb e.reserved61 0 && eqb e.level 0 && eqb e.mig_type 0 && eqb e.state 0)
+faulty e = not (plain e && eqb e.state 0)
 
 -- OPERATION 0 or 2: 1 and 3 restore
 abbrev pub is_nop : Entry → Bool

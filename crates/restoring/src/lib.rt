@@ -4,23 +4,41 @@
 
 ghost use Rattle.std.specs.Prelude.{◌≡◌};
 ghost use Rattle.words.specs.Entry.{entry_of};
-ghost use Rattle.restoring.specs.Restoring.{faulty, told_word, restored_entry, left_entry, restored_of};
+ghost use Rattle.words.specs.Statuses.{failure_number, status_number};
+ghost use Rattle.page.specs.Page.{page_of};
+ghost use Rattle.restoring.specs.Restoring.{faulty, restore_status, told_word, restored_entry, left_entry, restored_of};
 
 use entry::{Ground, Taken};
 use page::{PageWords, queries, sweeps};
 use words::entries::Entry;
+use words::statuses::Failure;
 use words::{entries, operations, statuses};
 
-// A form that no entry may have.
+// A form that no entry of a RESTORE may have.
 fn is_faulty(e: Entry) -> bool
     ensures { result ≡ faulty e }
 {
-    !((e.reserved5 == 0)
-        & (e.reserved54 == 0)
-        & (e.reserved61 == 0)
-        & (e.level == 0)
-        & (e.mig_type == 0)
-        & (e.state == 0))
+    !(entry::is_plain(e) & (e.state == 0))
+}
+
+// Why an entry is not restored: the first test that holds.
+fn allow_restored(e: Entry, w: PageWords, g: Ground) -> Result<(), Failure>
+    ensures { status_number result ≡ restore_status e (page_of w) g }
+{
+    let nop = e.operation % 2 != operations::RESTORE;
+    if is_faulty(e) {
+        return Err(Failure::GpaListEntryInvalid);
+    }
+    if nop {
+        return Err(Failure::Skipped);
+    }
+    if g.pages <= e.gpa {
+        return Err(Failure::SeptWalkFailed);
+    }
+    if !queries::is_left(w) {
+        return Err(Failure::SeptEntryStateIncorrect);
+    }
+    Ok(())
 }
 
 // The entry as it comes back.
@@ -45,9 +63,10 @@ fn succeed(word: u64, held: u64, w: PageWords) -> Taken
     }
 }
 
-fn fail(word: u64, held: u64, w: PageWords, status: u64) -> Taken
-    ensures { result ≡ left_entry (entry_of word) held w status }
+fn fail(word: u64, held: u64, w: PageWords, failure: Failure) -> Taken
+    ensures { result ≡ left_entry (entry_of word) held w (failure_number failure) }
 {
+    let status = u64::from(failure);
     let told = told_word(word, operations::NOP, status);
     Taken {
         status,
@@ -58,26 +77,13 @@ fn fail(word: u64, held: u64, w: PageWords, status: u64) -> Taken
     }
 }
 
-// The entry with this word, on the words of the page that it names; `held` is its word in a buffer, which stays. The first test that holds gives the status.
+// The entry with this word, on the words of the page that it names; `held` is its word in a buffer, which stays.
 pub fn take_entry(word: u64, held: u64, w: PageWords, g: Ground) -> Taken
     ensures { result ≡ restored_of word held w g }
 {
-    let e = entries::entry_of(word);
-    let faulty = is_faulty(e);
-    let left = queries::is_left(w);
-    let nop = e.operation % 2 != operations::RESTORE;
-    let beyond = g.pages <= e.gpa;
-    if faulty {
-        return fail(word, held, w, statuses::GPA_LIST_ENTRY_INVALID);
+    let e = Entry::from(word);
+    match allow_restored(e, w, g) {
+        Ok(()) => succeed(word, held, w),
+        Err(failure) => fail(word, held, w, failure),
     }
-    if nop {
-        return fail(word, held, w, statuses::SKIPPED);
-    }
-    if beyond {
-        return fail(word, held, w, statuses::SEPT_WALK_FAILED);
-    }
-    if !left {
-        return fail(word, held, w, statuses::SEPT_ENTRY_STATE_INCORRECT);
-    }
-    succeed(word, held, w)
 }

@@ -2,11 +2,14 @@
 use mathlib.Core.Path.{◌≡◌, refl, sym, ap}
 use mathlib.Core.Bool.{Bool, true, false, cond, ◌&&◌}
 use mathlib.Core.List.{List, [], ◌∷◌}
+use Rattle.std.proofs.Common.{None, Some}
 use Prim.Native.Nat.{ℕ, suc, ◌+◌, ◌-◌, ◌*◌, ◌/◌, ◌≤◌, ◌<◌}
 use native.Mathlib.Omega.{arith}
 use lib.ListN.{length, set, length-take, length-drop}
 use lib.Dec.{leb}
-use borrow.Author.Tests.{le-leb, lt-leb, leb-true, leb-false, eq-eqb, ne_eqb}
+use borrow.Author.Tests.{le-leb, lt-leb, leb-true, leb-false}
+use Rattle.refusals.specs.Refusals.{ending_number}
+use Rattle.refusals.specs.declared.Ending.{Ending}
 use Rattle.refusals.proofs.Laws.{passed, and_right, not-false}
 use Rattle.page.specs.Page.{page_of, blocked, on_words}
 use Rattle.page.specs.declared.PageWords.{PageWords}
@@ -17,7 +20,8 @@ use Rattle.session.specs.declared.Session.{Session}
 use Rattle.session.proofs.Laws.{gate-first, gate-open}
 use Rattle.session.proofs.FormedLaws.{formed-means}
 use Rattle.scan.specs.Look.{listed, listed_word, listed_page, look_of}
-use Rattle.scan.specs.Scan.{stop_tests, stop_code, end_code, ScanOut, stop, scan_run, part_of, within_table, dscan_tests, dscan_code, dcheck_tests, dcheck_code}
+use Rattle.scan.specs.Scan.{stop_tests, stop_code, Stops, end_code, ScanOut, stop, scan_run, part_of, within_table, dscan_tests, dscan_code}
+use Rattle.scan.specs.Scan.{dcheck_tests, dcheck_code}
 use Rattle.scan.specs.declared.Scan.{Scan}
 
 -- ---- a turn of the run
@@ -31,26 +35,29 @@ stop-room scan b l i put room e h = leb-false room put (rw h at (passed (stop_te
 more : (n i : ℕ) → i < n → n - i ≡ suc (n - (i + 1))
 more n i h = omega arith
 
-module _ (n : ℕ) (scan : Scan) (i put : ℕ) (part list : List ℕ) (w : PageWords) (b l : Bool) (code : ℕ) (inside : i < n) (loaded : w ≡ words_at part i)
-    (shut : b ≡ blocked (page_of w)) (found : l ≡ listed (page_of w)) (coded : code ≡ stop_code scan b l i put (length list)) where
-  -- a code ends the run
-  pub scan-stops : (code ≡ 0 → ⊥) → scan_run (n - i) scan i put part list ≡ stop code (scan.first + i) put part list
+module _ (n : ℕ) (scan : Scan) (i put : ℕ) (part list : List ℕ) (w : PageWords) (b l : Bool) (inside : i < n) (loaded : w ≡ words_at part i)
+    (shut : b ≡ blocked (page_of w)) (found : l ≡ listed (page_of w)) where
+  -- what stops a scan ends the run
+  pub scan-stops : (e : Ending) → Stops (stop_code scan b l i put (length list)) (Some e) →
+      scan_run (n - i) scan i put part list ≡ stop (ending_number e) (scan.first + i) put part list
   unfolding scan_run look_of
-  scan-stops e = rw (more n i inside, ← loaded, ← shut, ← found, ← coded, ne_eqb _ _ e)
+  scan-stops e s = rw (more n i inside, ← loaded, ← shut, ← found, s.1, s.0)
 
-  -- without one it goes on to the next page
-  pub scan-visits : code ≡ 0 → scan_run (n - i) scan i put part list ≡ scan_run (n - (i + 1)) scan (i + 1) (cond l (put + 1) put) (cond l
+  -- where nothing does it goes on to the next page
+  pub scan-visits : Stops (stop_code scan b l i put (length list)) None →
+      scan_run (n - i) scan i put part list ≡ scan_run (n - (i + 1)) scan (i + 1) (cond l (put + 1) put) (cond l
       (put_at part i (on_words (listed_page scan.clock) w)) part) (cond l (set list put (listed_word (page_of w).state (scan.first + i))) list)
   unfolding scan_run look_of
-  scan-visits e = rw (more n i inside, ← loaded, ← shut, ← found, ← coded, eq-eqb _ _ e)
+  scan-visits s = rw (more n i inside, ← loaded, ← shut, ← found, s)
 
 -- past the last page
-pub scan-ends : (n : ℕ) (scan : Scan) (i put : ℕ) (part list : List ℕ) (code : ℕ) → n ≤ i → code ≡ end_code scan.checking →
-    scan_run (n - i) scan i put part list ≡ stop code (scan.first + i) put part list
+pub scan-ends : (n : ℕ) (scan : Scan) (i put : ℕ) (part list : List ℕ) (code : ℕ) → i ≤ n → n ≤ i → code ≡ end_code scan.checking →
+    scan_run (n - i) scan i put part list ≡ stop code (scan.first + n) put part list
 unfolding scan_run
-scan-ends n scan i put part list code h e =
+scan-ends n scan i put part list code h k e =
     let none : n - i ≡ 0 = omega arith in
-    rw (none, e)
+    let last : i ≡ n = omega arith in
+    rw (none, last, e)
 
 -- what a run leaves, one by one
 pub parts : {o o' : ScanOut} → o ≡ o' → (o.scanned ≡ o'.scanned) × ((o.part ≡ o'.part) × (o.list ≡ o'.list))

@@ -18,10 +18,9 @@ use Rattle.page.proofs.Laws.{Held, read_held, page_moved}
 use Rattle.table.specs.Table.{words_at, page_at}
 use Rattle.session.specs.declared.Session.{Session}
 use Rattle.scan.specs.Look.{renewed, listed_page, look_of}
-use Rattle.scan.specs.Scan.{stop_tests, stop_code, end_code, ScanOut, scan_run, range_run, answer_of, ScanOutcome, refused_scan, ran_scan, dscan_code, dscan_of}
-use Rattle.scan.specs.Scan.{dscan_out, dcheck_code, dcheck_of, checked_by, dcheck_out}
+use Rattle.scan.specs.Scan.{stop_tests, stop_code, end_code, Scanned, ScanOut, scan_run, range_run, answer_of, ScanOutcome, refused_scan, ran_scan}
+use Rattle.scan.specs.Scan.{dscan_code, dscan_of, dscan_out, dcheck_code, dcheck_of, checked_by, dcheck_out}
 use Rattle.scan.specs.declared.Scan.{Scan}
-use Rattle.scan.specs.declared.Scanned.{Scanned}
 use Rattle.scan.proofs.Laws.{dscan-fits, dcheck-fits}
 use Rattle.scan.proofs.RangeLaws.{range-strange}
 

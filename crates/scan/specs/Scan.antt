@@ -1,7 +1,10 @@
 -- The scans.
-use Rattle.std.specs.Prelude.{Bool, true, false, cond, not, ◌&&◌, ◌||◌, List, [], ◌∷◌, ◌++◌, ℕ, zero, suc, ◌+◌, ◌-◌, ◌*◌, length, set, take, drop, eqb, leb, ltb}
+use Rattle.std.specs.Prelude.{◌≡◌, Bool, true, false, cond, not, ◌&&◌, ◌||◌, Option, None, Some, Result, Ok, Err, List, [], ◌∷◌, ◌++◌, ℕ, zero, suc, ◌+◌, ◌-◌}
+use Rattle.std.specs.Prelude.{◌*◌, length, set, take, drop, eqb, leb, ltb}
 use Rattle.words.specs.Codes as codes
-use Rattle.refusals.specs.Refusals.{Test, ◌gives◌, first_of}
+use Rattle.refusals.specs.Refusals.{Test, ◌gives◌, first_of, number_of, ending_number}
+use Rattle.refusals.specs.declared.Refusal.{Refusal}
+use Rattle.refusals.specs.declared.Ending.{Ending}
 use Rattle.table.specs.Table.{words_at, put_at}
 use Rattle.session.specs.Session.{with_check}
 use Rattle.session.specs.Formed.{gated, most_entries, last_entry}
@@ -10,9 +13,9 @@ use Rattle.session.specs.declared.Check.{Check}
 use Rattle.session.specs.declared.Session.{Session}
 use Rattle.scan.specs.Look.{look_of}
 use Rattle.scan.specs.declared.Scan.{Scan}
-use Rattle.scan.specs.declared.Scanned.{Scanned}
+use Rattle.scan.specs.declared.Scanned as ended
 use Rattle.scan.specs.declared.Written.{Written}
-use Rattle.scan.specs.declared.ScanAnswer.{ScanAnswer}
+use Rattle.scan.specs.declared.ScanAnswer as answered
 
 -- ---- the run
 
@@ -27,9 +30,24 @@ stop_tests scan blocked listed i put room =
 unfoldable pub stop_code : Scan → Bool → Bool → ℕ → ℕ → ℕ → ℕ
 stop_code scan blocked listed i put room = first_of (stop_tests scan blocked listed i put room)
 
+-- what stops a scan has that code, which is not 0; with 0 nothing does
+abbrev pub Stops : ℕ → Option Ending → Type 0
+Stops code None = code ≡ codes.done
+Stops code (Some e) = (ending_number e ≡ code) × (eqb code codes.done ≡ false)
+
 -- past the end, 0; in DCHECK 3
 unfoldable pub end_code : Bool → ℕ
 end_code checking = cond checking codes.check_complete codes.done
+
+-- how a scan ended: the page that it stands at, and how many words it has written
+pub record Scanned : Type 0 where
+  pub code : ℕ
+  pub next : ℕ
+  pub put : ℕ
+
+-- the same, as code has it
+abbrev pub scanned_of : ended.Scanned → Scanned
+scanned_of g = record { code = ending_number g.ending; next = g.next; put = g.put }
 
 -- a part of the table, or the whole of it, and the list
 pub record ScanOut : Type 0 where
@@ -69,6 +87,14 @@ range_run count scan t l =
 
 -- ---- the answer
 
+-- what a scan answers: the next page, and the first and the last entry of its list
+pub record ScanAnswer : Type 0 where
+  pub code : ℕ
+  pub next : ℕ
+  pub first : ℕ
+  pub last : ℕ
+  pub session : Session
+
 -- the first and last entries: 0 and count−1; 511 and 0 when empty
 unfoldable pub written_of : ℕ → Written
 written_of put = cond (eqb put 0) (record { first = last_entry; last = 0 }) (record { first = 0; last = put - 1 })
@@ -81,6 +107,11 @@ answer_of g s =
 -- a refusal's answer is the code; all other numbers in it are 0
 abbrev pub refused_answer : ℕ → Session → ScanAnswer
 refused_answer code s = record { code = code; next = 0; first = 0; last = 0; session = s }
+
+-- the answer that code gives as a `Result`: a refusal has no numbers, and brings back the session that came
+abbrev pub scan_answer_of : Session → Result answered.ScanAnswer Refusal → ScanAnswer
+scan_answer_of s (Ok a) = record { code = ending_number a.ending; next = a.next; first = a.first; last = a.last; session = a.session }
+scan_answer_of s (Err r) = record { code = number_of r; next = 0; first = 0; last = 0; session = s }
 
 -- the place becomes the next page; 3 is complete; 51 marks the check failed
 abbrev pub check_after : Scanned → Check

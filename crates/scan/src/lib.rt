@@ -2,18 +2,18 @@
 
 #![tactic(auto)]
 
-ghost use Rattle.std.specs.Prelude.{◌≡◌, cond, true, ◌+◌, ◌*◌, ◌/◌, ◌≤◌, ◌<◌, length, set};
+ghost use Rattle.std.specs.Prelude.{◌≡◌, ◌+◌, ◌*◌, ◌/◌, ◌≤◌, ◌<◌, length, set};
+ghost use Rattle.refusals.specs.Refusals.{first_of, ending_number, code_of};
 ghost use Rattle.page.specs.Page.{page_of, on_words};
 ghost use Rattle.table.specs.Table.{most_pages, put_at};
 ghost use Rattle.scan.specs.Look.{listed_word, listed_page};
-ghost use Rattle.session.specs.Formed.{behind};
-ghost use Rattle.scan.specs.Scan.{stop_code, end_code, scan_run, range_run, written_of, answer_of, refused_answer, check_after};
+ghost use Rattle.scan.specs.Scan.{stop_code, Stops, end_code, scanned_of, scan_run, range_run, written_of, answer_of, scan_answer_of, check_after};
 ghost use Rattle.scan.specs.Scan.{within_table, dscan_asks, dscan_out, dcheck_asks, dcheck_out};
 
 use page::{Clock, PageWords, queries};
+use refusals::{Ending, Refusal};
 use session::changes::Change;
 use session::{Check, Session, When, changes, streams};
-use words::codes;
 
 // What a scan makes of one page.
 pub mod looks;
@@ -32,7 +32,7 @@ pub struct Scan {
 // How a scan ended: the page that it stands at, and how many words it has written.
 #[derive(Clone, Copy)]
 pub struct Scanned {
-    pub code: u64,
+    pub ending: Ending,
     pub next: usize,
     pub put: usize,
 }
@@ -40,7 +40,7 @@ pub struct Scanned {
 // What a scan answers: the next page, and the first and the last entry of its list.
 #[derive(Clone, Copy)]
 pub struct ScanAnswer {
-    pub code: u64,
+    pub ending: Ending,
     pub next: usize,
     pub first: u64,
     pub last: u64,
@@ -49,100 +49,77 @@ pub struct ScanAnswer {
 
 // ---- the run
 
-// Why a scan does not visit the page that it stands at, with `i` pages passed and `put` words written; 0 if it does.
-pub fn stop_code(scan: Scan, blocked: bool, listed: bool, i: usize, put: usize, room: usize) -> u64
-    ensures { result ≡ stop_code scan blocked listed i put room }
-{
-    let spent = scan.budget <= i;
-    let ends = scan.checking & blocked;
-    let full = listed & (room <= put);
-    if spent {
-        return codes::INTERRUPTED;
-    }
-    if ends {
-        return codes::MEM_SCAN_FAILED_BLOCKED_RANGE;
-    }
-    if full {
-        return codes::LIST_FULL;
-    }
-    codes::DONE
-}
-
-// The code past the last page.
-pub fn end_code(checking: bool) -> u64
-    ensures { result ≡ end_code checking }
-{
-    if checking {
-        codes::CHECK_COMPLETE
-    } else {
-        codes::DONE
-    }
-}
-
-// A page that is listed goes into the part, and its word into the list; how many words are then written.
-fn visit(
-    part: &mut [u64],
-    list: &mut [u64],
+// Why a scan does not visit the page that it stands at, with `i` pages passed and `put` words written; `None` if it does.
+pub fn stop(
+    scan: Scan,
+    blocked: bool,
+    listed: bool,
     i: usize,
     put: usize,
-    w: PageWords,
-    listed: bool,
-    number: usize,
-    clock: Clock,
-) -> usize
-    requires { listed ≡ true → put < length list.old }
-    ensures value { result ≡ cond listed (put + 1) put }
-    ensures part_after { part.new ≡ cond listed (put_at part.old i (on_words (listed_page clock) w)) part.old }
-    ensures list_after { list.new ≡ cond listed (set list.old put (listed_word (page_of w).state number)) list.old }
+    room: usize,
+) -> Option<Ending>
+    ensures { Stops (stop_code scan blocked listed i put room) result }
 {
-    if listed {
-        let after = looks::listed_words(w, clock);
-        let word = looks::listed_word(w, number);
-        table::store(part, i, after);
-        list[put] = word;
-        return put + 1;
+    if scan.budget <= i {
+        return Some(Ending::Interrupted);
     }
-    put
+    if scan.checking & blocked {
+        return Some(Ending::MemScanFailedBlockedRange);
+    }
+    if listed & (room <= put) {
+        return Some(Ending::ListFull);
+    }
+    None
+}
+
+// How it ends past the last page.
+pub fn end(checking: bool) -> Ending
+    ensures { ending_number result ≡ end_code checking }
+{
+    if checking {
+        Ending::CheckComplete
+    } else {
+        Ending::Done
+    }
+}
+
+// A page that is listed goes into the part, and its word into the list.
+fn visit(part: &mut [u64], list: &mut [u64], scan: Scan, i: usize, put: usize, w: PageWords)
+    requires { (scan.first + i < most_pages) × (put < length list.old) }
+    ensures part_after { part.new ≡ put_at part.old i (on_words (listed_page scan.clock) w) }
+    ensures list_after { list.new ≡ set list.old put (listed_word (page_of w).state (scan.first + i)) }
+{
+    table::store(part, i, looks::listed_words(w, scan.clock));
+    list[put] = looks::listed_word(w, scan.first + i);
 }
 
 // The pages of a part of the table in turn.
 fn scan_part(part: &mut [u64], list: &mut [u64], scan: Scan) -> Scanned
     requires { scan.first + length part.old / 2 ≤ most_pages }
-    ensures value { result ≡ (scan_run (length part.old / 2) scan 0 0 part.old list.old).scanned }
+    ensures value { scanned_of result ≡ (scan_run (length part.old / 2) scan 0 0 part.old list.old).scanned }
     ensures part_after { part.new ≡ (scan_run (length part.old / 2) scan 0 0 part.old list.old).part }
     ensures list_after { list.new ≡ (scan_run (length part.old / 2) scan 0 0 part.old list.old).list }
 {
     let n = part.len() / 2;
-    let mut i: usize = 0;
-    let mut put: usize = 0;
-    while i < n {
+    let mut put = 0;
+    for i in 0..n {
         let words = table::load(&part[..], i);
-        let blocked = queries::is_blocked(words);
         let listed = looks::is_listed(words);
-        let code = stop_code(scan, blocked, listed, i, put, list.len());
-        if code != codes::DONE {
+        if let Some(ending) = stop(scan, queries::is_blocked(words), listed, i, put, list.len()) {
             return Scanned {
-                code,
+                ending,
                 next: scan.first + i,
                 put,
             };
         }
-        put = visit(
-            part,
-            list,
-            i,
-            put,
-            words,
-            listed,
-            scan.first + i,
-            scan.clock,
-        );
-        i = i + 1;
+        if listed {
+            visit(part, list, scan, i, put, words);
+            put += 1;
+        }
     }
-    let code = end_code(scan.checking);
     Scanned {
-        code,
-        next: scan.first + i,
+        ending: end(scan.checking),
+        next: scan.first + n,
         put,
     }
 }
@@ -150,7 +127,7 @@ fn scan_part(part: &mut [u64], list: &mut [u64], scan: Scan) -> Scanned
 // `count` pages of the table from the scan's first page on.
 fn scan_range(table: &mut [u64], list: &mut [u64], count: usize, scan: Scan) -> Scanned
     requires { (2 * scan.first + 2 * count ≤ length table.old) × (length table.old ≤ 2 * most_pages) }
-    ensures value { result ≡ (range_run count scan table.old list.old).scanned }
+    ensures value { scanned_of result ≡ (range_run count scan table.old list.old).scanned }
     ensures table_after { table.new ≡ (range_run count scan table.old list.old).part }
     ensures list_after { list.new ≡ (range_run count scan table.old list.old).list }
 {
@@ -172,39 +149,27 @@ pub struct Written {
 pub fn written_of(put: usize) -> Written
     ensures { result ≡ written_of put }
 {
-    if put == 0 {
-        return Written {
+    match put.checked_sub(1) {
+        Some(last) => Written {
+            first: 0,
+            last: last as u64,
+        },
+        None => Written {
             first: streams::LAST_ENTRY,
             last: 0,
-        };
-    }
-    Written {
-        first: 0,
-        last: put as u64 - 1,
+        },
     }
 }
 
 fn answer(got: Scanned, session: Session) -> ScanAnswer
-    ensures { result ≡ answer_of got session }
+    ensures { scan_answer_of session (Ok result) ≡ answer_of (scanned_of got) session }
 {
     let w = written_of(got.put);
     ScanAnswer {
-        code: got.code,
+        ending: got.ending,
         next: got.next,
         first: w.first,
         last: w.last,
-        session,
-    }
-}
-
-fn refuse(code: u64, session: Session) -> ScanAnswer
-    ensures { result ≡ refused_answer code session }
-{
-    ScanAnswer {
-        code,
-        next: 0,
-        first: 0, // 511 is for a scan that ran
-        last: 0,
         session,
     }
 }
@@ -215,28 +180,22 @@ fn refuse(code: u64, session: Session) -> ScanAnswer
 fn is_within(first: usize, count: usize, pages: usize) -> bool
     ensures { result ≡ within_table first count pages }
 {
-    if pages < first {
-        return false;
+    match pages.checked_sub(first) {
+        Some(left) => (1 <= count) & (count <= left),
+        None => false,
     }
-    (1 <= count) & (count <= pages - first)
 }
 
-// `gate` is the code of what stands before.
-pub fn dscan_code(gate: u64, pages: usize, room: usize, first: usize, count: usize) -> u64
-    ensures { result ≡ behind gate (dscan_asks pages room first count) }
+pub fn allow_dscan(pages: usize, room: usize, first: usize, count: usize) -> Result<(), Refusal>
+    ensures { code_of result ≡ first_of (dscan_asks pages room first count) }
 {
-    let within = is_within(first, count, pages);
-    let long = streams::MOST_ENTRIES < room;
-    if gate != codes::DONE {
-        return gate;
+    if !is_within(first, count, pages) {
+        return Err(Refusal::OperandInvalid);
     }
-    if !within {
-        return codes::OPERAND_INVALID;
+    if streams::MOST_ENTRIES < room {
+        return Err(Refusal::OperandInvalid);
     }
-    if long {
-        return codes::OPERAND_INVALID;
-    }
-    codes::DONE
+    Ok(())
 }
 
 // Scans `count` pages from page `first` on, and leaves the session as it was.
@@ -247,17 +206,13 @@ pub fn dscan(
     first: usize,
     count: usize,
     budget: usize,
-) -> ScanAnswer
-    ensures value { result ≡ (dscan_out s table.old list.old first count budget).answer }
+) -> Result<ScanAnswer, Refusal>
+    ensures value { scan_answer_of s result ≡ (dscan_out s table.old list.old first count budget).answer }
     ensures table_after { table.new ≡ (dscan_out s table.old list.old first count budget).table }
     ensures list_after { list.new ≡ (dscan_out s table.old list.old first count budget).list }
 {
-    let clock = s.clock;
-    let gate = session::gate(s, table.len(), When::Live);
-    let code = dscan_code(gate, s.fixed.pages, list.len(), first, count);
-    if code != codes::DONE {
-        return refuse(code, s);
-    }
+    session::gate(s, table.len(), When::Live)?;
+    allow_dscan(s.fixed.pages, list.len(), first, count)?;
     let got = scan_range(
         table,
         list,
@@ -265,58 +220,51 @@ pub fn dscan(
         Scan {
             first,
             budget,
-            clock,
+            clock: s.clock,
             checking: false,
         },
     );
-    answer(got, s)
+    Ok(answer(got, s))
 }
 
 // ---- DCHECK
 
-// `gate` is the code of what stands before.
-pub fn dcheck_code(gate: u64, check: Check, room: usize) -> u64
-    ensures { result ≡ behind gate (dcheck_asks check room) }
+pub fn allow_dcheck(check: Check, room: usize) -> Result<(), Refusal>
+    ensures { code_of result ≡ first_of (dcheck_asks check room) }
 {
-    let long = streams::MOST_ENTRIES < room;
-    let over = check.complete | check.failed;
-    if gate != codes::DONE {
-        return gate;
+    if streams::MOST_ENTRIES < room {
+        return Err(Refusal::OperandInvalid);
     }
-    if long {
-        return codes::OPERAND_INVALID;
+    if check.complete | check.failed {
+        return Err(Refusal::MemScanResetRequired);
     }
-    if over {
-        return codes::MEM_SCAN_RESET_REQUIRED;
-    }
-    codes::DONE
+    Ok(())
 }
 
 // The check where the scan ended.
 pub fn check_after(got: Scanned) -> Check
-    ensures { result ≡ check_after got }
+    ensures { result ≡ check_after (scanned_of got) }
 {
-    let code = got.code;
     Check {
         place: got.next,
-        complete: code == codes::CHECK_COMPLETE,
-        failed: code == codes::MEM_SCAN_FAILED_BLOCKED_RANGE,
+        complete: got.ending == Ending::CheckComplete,
+        failed: got.ending == Ending::MemScanFailedBlockedRange,
     }
 }
 
 // Goes on from the session's place.
-pub fn dcheck(s: Session, table: &mut [u64], list: &mut [u64], budget: usize) -> ScanAnswer
-    ensures value { result ≡ (dcheck_out s table.old list.old budget).answer }
+pub fn dcheck(
+    s: Session,
+    table: &mut [u64],
+    list: &mut [u64],
+    budget: usize,
+) -> Result<ScanAnswer, Refusal>
+    ensures value { scan_answer_of s result ≡ (dcheck_out s table.old list.old budget).answer }
     ensures table_after { table.new ≡ (dcheck_out s table.old list.old budget).table }
     ensures list_after { list.new ≡ (dcheck_out s table.old list.old budget).list }
 {
-    let clock = s.clock;
-    let gate = session::gate(s, table.len(), When::Blackout);
-    let check = s.check;
-    let code = dcheck_code(gate, check, list.len());
-    if code != codes::DONE {
-        return refuse(code, s);
-    }
+    session::gate(s, table.len(), When::Blackout)?;
+    allow_dcheck(s.check, list.len())?;
     let place = s.check.place;
     let got = scan_range(
         table,
@@ -325,11 +273,15 @@ pub fn dcheck(s: Session, table: &mut [u64], list: &mut [u64], budget: usize) ->
         Scan {
             first: place,
             budget,
-            clock,
+            clock: s.clock,
             checking: true,
         },
     );
-    let after = check_after(got);
-    let session = changes::changed(s, Change::ToCheck { check: after });
-    answer(got, session)
+    let session = changes::changed(
+        s,
+        Change::ToCheck {
+            check: check_after(got),
+        },
+    );
+    Ok(answer(got, session))
 }

@@ -6,15 +6,16 @@ ghost use Rattle.page.specs.Page.{page_of, strange, words_for, on_words};
 ghost use Rattle.scan.specs.Look.{listed, listed_word, listed_page};
 
 use page::{Clock, PageWords};
+use records::Record;
 use words::entries::Entry;
-use words::{entries, operations};
+use words::operations;
 
 // The page is to be exported, or exported again.
 pub fn is_listed(w: PageWords) -> bool
     ensures { result ≡ listed (page_of w) }
 {
     let n = page::state_of(w);
-    let p = records::record_of(w.word);
+    let p = Record::from(w.word);
     states::is_listed(n) | (states::is_sent(n) & p.dirty)
 }
 
@@ -25,7 +26,7 @@ pub fn listed_word(w: PageWords, number: usize) -> u64
     let n = page::state_of(w);
     let pending = states::is_pending(n);
     let hint = states::hint_of(n);
-    entries::entry_word(Entry {
+    u64::from(Entry {
         level: 0,
         pending,
         state: hint,
@@ -60,10 +61,5 @@ fn list(w: PageWords, to: u8, clock: Clock) -> PageWords
 pub fn listed_words(w: PageWords, clock: Clock) -> PageWords
     ensures { result ≡ on_words (listed_page clock) w }
 {
-    let n = page::state_of(w);
-    let after = list(w, states::look_of(n), clock);
-    if states::is_strange(n) {
-        return w;
-    }
-    after
+    page::unless_strange(w, |n| list(w, states::look_of(n), clock))
 }

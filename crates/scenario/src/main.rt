@@ -2,50 +2,33 @@
 
 #![tactic(auto)]
 
-mod hand;
+mod bench;
 mod lines;
-mod names;
+mod numbers;
 mod orders;
-mod play;
 mod show;
+mod spaces;
 
-use hand::Lent;
+use bench::Bench;
+use lines::Line;
 use std::io::{self, BufReader, BufWriter, Read, Write};
-
-// Two words more than a table may have, so that one too long can be lent.
-const TABLE_SPACE: usize = 2 * table::MOST_PAGES + 2;
-
-// Two more than the longest list has, for lists and for buffers.
-const LIST_SPACE: usize = session::streams::MOST_ENTRIES + 2;
 
 // Does what standard input asks for, line by line; the last one may lack its end.
 fn main(rt: HostRuntime) -> io::Result<()> {
-    let mut words = [0u64; TABLE_SPACE];
-    let table: &mut [u64] = &mut words;
-    let mut entries = [0u64; LIST_SPACE];
-    let list: &mut [u64] = &mut entries;
-    let mut contents = [0u64; LIST_SPACE];
-    let buffer: &mut [u64] = &mut contents;
-    let mut lent = Lent {
-        table: 0,
-        list: 0,
-        buffer: 0,
-    };
-    let mut session = hand::zeros();
-    let mut line = lines::empty();
+    let mut bench = Bench::new(rt.alloc())?;
+    let mut line = Line::new(rt.alloc());
     // At most 4 GiB, so that the program ends.
     let input = BufReader::new(rt.alloc(), rt.reader())?.take(4_294_967_296);
     let mut out = BufWriter::new(rt.alloc(), io::writer(&rt))?;
     for byte in input.bytes() {
-        let b = byte?;
-        if b == b'\n' {
-            lent = hand::lent_after(lent, line);
-            session = play::obey(&mut out, session, line, lent, table, list, buffer)?;
-            line = lines::empty();
-        } else {
-            line = lines::with_byte(line, b);
+        match byte? {
+            b'\n' => {
+                bench.obey(&mut out, line.into_order())?;
+                line = Line::new(rt.alloc());
+            }
+            byte => line.read(byte)?,
         }
     }
-    play::obey(&mut out, session, line, lent, table, list, buffer)?;
+    bench.obey(&mut out, line.into_order())?;
     out.flush()
 }

@@ -6,14 +6,14 @@ use Prim.Native.Nat.{ℕ, ◌+◌, ◌≤◌, ◌<◌}
 use native.Mathlib.Omega.{arith}
 use lib.Dec.{eqb, ltb}
 use borrow.Author.Tests.{ltb-true, eqb-true, ne_eqb}
-use Rattle.refusals.specs.Refusals.{Test, first_of}
-use Rattle.refusals.proofs.Laws.{and_left, and_right, not-false, Passed, coded, passed, passed-code, Ends, once, ended}
+use Rattle.refusals.specs.Refusals.{Test, first_of, number_of}
+use Rattle.refusals.specs.declared.Refusal.{Refusal}
+use Rattle.refusals.proofs.Laws.{and_left, and_right, not-false, Passed, coded, passed, passed-code, Ends, once, ended, number-pos}
 use Rattle.session.specs.Session.{among, changed_by}
 use Rattle.session.specs.Formed.{formed, phase_tests, gate_tests, gated, behind}
-use Rattle.session.specs.Outcome.{Outcome, outcome, verdict_for, answered}
+use Rattle.session.specs.Outcome.{Outcome, Answer, outcome, verdict_for, answered}
 use Rattle.session.specs.declared.Phase.{Phase}
 use Rattle.session.specs.declared.Session.{Session}
-use Rattle.session.specs.declared.Answer.{Answer}
 use Rattle.session.specs.declared.changes.Change.{Change}
 use Rattle.session.specs.declared.changes.Change.TheVariants.{Nothing}
 
@@ -33,6 +33,15 @@ first_then (t ∷ l) m k = go t.holds (first_then l m (and_right (ltb 0 t.code) 
 pub gate-first : (s : Session) (len : ℕ) (phases : List Phase) (l : List Test) → gated s len phases l ≡ behind (gated s len phases []) l
 unfolding gated
 gate-first s len phases l = first_then (gate_tests s len phases []) l refl
+
+-- a gate that refuses, refuses the call
+pub gate-refused : (s : Session) (len : ℕ) (phases : List Phase) (l : List Test) (r : Refusal) → number_of r ≡ gated s len phases [] →
+    gated s len phases l ≡ number_of r
+gate-refused s len phases l r e = rw (gate-first s len phases l, ← e, number-pos r)
+
+-- and behind one that lets it through stand its own tests
+pub gate-passed : (s : Session) (len : ℕ) (phases : List Phase) (l : List Test) → 0 ≡ gated s len phases [] → gated s len phases l ≡ first_of l
+gate-passed s len phases l e = rw (gate-first s len phases l, ← e)
 
 -- behind 40 the gate asks for the phase alone
 pub gate-formed : (s : Session) (len : ℕ) (phases : List Phase) (l : List Test) → formed s len ≡ true →

@@ -1,5 +1,5 @@
 -- The session: what New makes, and sessions made from others.
-use Rattle.std.specs.Prelude.{Bool, false, cond, ◌||◌, List, [], ◌∷◌, ℕ, ◌+◌, eqb, ltb, get_or, set, replicate}
+use Rattle.std.specs.Prelude.{◌≡◌, Bool, false, cond, ◌||◌, List, [], ◌∷◌, ℕ, ◌+◌, ◌<◌, eqb, ltb, get_or, set, replicate, Result, MatchResult}
 use Rattle.page.specs.declared.Clock.{Clock}
 use Rattle.session.specs.declared.Phase.{Phase}
 use Rattle.session.specs.declared.Phase.TheVariants.{Idle, Live, Blackout, Done}
@@ -8,6 +8,7 @@ use Rattle.session.specs.declared.Session.{Session}
 use Rattle.session.specs.declared.Comes.{Comes}
 use Rattle.session.specs.declared.When.{When}
 use Rattle.session.specs.declared.When.TheVariants as when
+use Rattle.session.specs.declared.phases.UnknownPhase.{UnknownPhase}
 use Rattle.session.specs.declared.changes.Change.{Change}
 use Rattle.session.specs.declared.changes.Change.TheVariants.{Nothing, ToPhase, ToEpoch, ToClock, ToCheck, Begin, ToWork}
 use Rattle.session.specs.declared.streams.Stream.{Stream}
@@ -22,6 +23,10 @@ phase_number Idle = 0
 phase_number Live = 1
 phase_number Blackout = 2
 phase_number Done = 3
+
+-- a number's phase, or the number that is none's
+abbrev pub NumbersPhase : ℕ → Result Phase UnknownPhase → Type 0
+NumbersPhase number r = MatchResult r (λ phase. phase_number phase ≡ number) (λ unknown. (unknown.0 ≡ number) × (3 < number))
 
 abbrev pub among : List Phase → Phase → Bool
 among [] p = false

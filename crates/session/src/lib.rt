@@ -3,21 +3,19 @@
 #![tactic(auto)]
 
 ghost use Rattle.std.specs.Prelude.{◌≡◌, []};
-ghost use Rattle.refusals.specs.Refusals.{first_of};
+ghost use Rattle.refusals.specs.Refusals.{first_of, code_of};
 ghost use Rattle.session.specs.Session.{among, phases_of, comes_in, new_session};
-ghost use Rattle.page.specs.Sweeps.{swept_by};
-ghost use Rattle.session.specs.Outcome.{answered_by};
 ghost use Rattle.session.specs.Formed.{epoch_in, formed, phase_tests, gated, busy};
 
 pub mod changes;
+pub mod phases;
 pub mod streams;
 
 use crate::streams::{STREAM_PLACES, Stream};
 use page::Clock;
-use page::sweeps::Sweep;
-use words::codes;
+use refusals::Refusal;
 
-#[derive(Clone, Copy)]
+#[derive(Clone, Copy, Debug, PartialEq, Eq)]
 pub enum Phase {
     Idle,
     Live,
@@ -50,13 +48,6 @@ pub struct Session {
     pub clock: Clock,
     pub check: Check,
     pub streams: [Stream; STREAM_PLACES],
-}
-
-// What a call answers that has no numbers of its own.
-#[derive(Clone, Copy)]
-pub struct Answer {
-    pub code: u64,
-    pub session: Session,
 }
 
 // Both epochs stop here.
@@ -174,28 +165,24 @@ fn is_in(w: When, p: Phase) -> bool
     }
 }
 
-// 41 if the call does not come in this phase; else 0.
-pub fn phase_code(p: Phase, w: When) -> u64
-    ensures { result ≡ first_of (phase_tests p (phases_of w) []) }
+// 41 if the call does not come in this phase.
+pub fn allow_phase(p: Phase, w: When) -> Result<(), Refusal>
+    ensures { code_of result ≡ first_of (phase_tests p (phases_of w) []) }
 {
-    let comes = is_in(w, p);
-    if !comes {
-        return codes::OP_STATE_INCORRECT;
+    if !is_in(w, p) {
+        return Err(Refusal::OpStateIncorrect);
     }
-    codes::DONE
+    Ok(())
 }
 
 // 40, and then 41.
-pub fn gate(s: Session, len: usize, w: When) -> u64
-    ensures { result ≡ gated s len (phases_of w) [] }
+pub fn gate(s: Session, len: usize, w: When) -> Result<(), Refusal>
+    ensures { code_of result ≡ gated s len (phases_of w) [] }
 {
-    let p = s.phase;
-    let formed = is_formed(s, len);
-    let code = phase_code(p, w);
-    if !formed {
-        return codes::MALFORMED;
+    if !is_formed(s, len) {
+        return Err(Refusal::Malformed);
     }
-    code
+    allow_phase(s.phase, w)
 }
 
 // Some stream is interrupted.
@@ -219,22 +206,5 @@ pub fn new_session(pages: usize, created: u64) -> Session
         clock: Clock { tlb: 1 },
         check,
         streams,
-    }
-}
-
-// ---- the end of a call
-
-// With code 0 every page is moved and the next session comes back; with any other code, everything as it came.
-pub fn finish(code: u64, s: Session, next: Session, table: &mut [u64], k: Sweep) -> Answer
-    ensures value { result ≡ (answered_by (swept_by k) code s next table.old).answer }
-    ensures table_after { table.new ≡ (answered_by (swept_by k) code s next table.old).table }
-{
-    if code != codes::DONE {
-        return Answer { code, session: s };
-    }
-    table::sweep_all(table, k);
-    Answer {
-        code,
-        session: next,
     }
 }

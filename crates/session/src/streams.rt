@@ -42,8 +42,7 @@ pub fn work_of(s: Session, at: u64) -> Work
     ensures { result ≡ work_of s at }
 {
     if at < STREAM_PLACES as u64 {
-        let stream = s.streams[at as usize];
-        return stream.work;
+        return s.streams[at as usize].work;
     }
     Work::AtRest
 }
@@ -74,15 +73,7 @@ pub fn is_usable(created: u64, at: u64) -> bool
 pub fn is_resting(work: Work) -> bool
     ensures { result ≡ work_resting work }
 {
-    match work {
-        Work::AtRest => true,
-        Work::Interrupted {
-            next: _,
-            last: _,
-            errors: _,
-            filled: _,
-        } => false,
-    }
+    matches!(work, Work::AtRest)
 }
 
 // Whether what an interrupted stream holds is in its ranges.
@@ -115,17 +106,11 @@ pub fn find_interrupted(s: Session) -> Found
     let mut any = false;
     let mut outside = false;
     let mut unusable = false;
-    let mut i: usize = 0;
-    while i < STREAM_PLACES {
-        let stream = s.streams[i];
-        let work = stream.work;
-        let resting = is_resting(work);
-        let in_range = is_in_range(work);
-        let usable = is_usable(s.fixed.created, i as u64);
-        any = any | !resting;
-        outside = outside | !in_range;
-        unusable = unusable | (!resting & !usable);
-        i = i + 1;
+    for (i, stream) in s.streams.iter().enumerate() {
+        let resting = is_resting(stream.work);
+        any |= !resting;
+        outside |= !is_in_range(stream.work);
+        unusable |= !resting & !is_usable(s.fixed.created, i as u64);
     }
     Found {
         any,

@@ -1,11 +1,12 @@
 -- Pages of a table: what is read after words were put, what a sweep makes of each page, and what the search for the lowest page says of all of them.
+use Rattle.std.specs.Prelude.{Option, None, Some, MatchOption}
+use Rattle.std.specs.Option.{is_some}
 use mathlib.Core.Path.{◌≡◌, refl, sym, ap, ◌∙◌}
 use mathlib.Core.Logic.{⊎_elim}
 use mathlib.Core.Bool.{Bool, true, false, cond}
 use mathlib.Core.List.{List, [], ◌∷◌}
-use Prim.Native.Nat.{ℕ, zero, suc, ◌+◌, ◌-◌, ◌*◌, ◌≤◌, ◌<◌}
+use Prim.Native.Nat.{ℕ, zero, suc, ◌+◌, ◌*◌, ◌≤◌, ◌<◌}
 use native.Mathlib.Omega.{arith}
-use native.Mathlib.Numerals.{add-one}
 use native.Mathlib.Nat.{eq-or-lt_of_le}
 use lib.Dec.{ltb}
 use lib.ListN.{length, set, length-set}
@@ -14,7 +15,7 @@ use borrow.Author.Tests.{lt-ltb, le-ltb, ltb-true, ltb-false}
 use Rattle.page.specs.Page.{Page, page_of, strange, on_words, unless_strange}
 use Rattle.page.specs.declared.PageWords.{PageWords}
 use Rattle.page.proofs.Laws.{Held, Holds, read_held, page_moved}
-use Rattle.table.specs.Table.{page_count, words_at, page_at, put_at, sweep_of, lowest, some, Lowest}
+use Rattle.table.specs.Table.{page_count, words_at, page_at, put_at, sweep_of, lowest, found, first_page, some, Lowest}
 
 -- ---- words that were put
 
@@ -171,21 +172,6 @@ page-put f t i h g = ap page_of (put_same t i (on_words f (words_at t i)) h) ∙
 
 -- ---- the lowest page of a kind
 
-pub lowest-found : (f : Page → Bool) (n i : ℕ) (t : List ℕ) → i < n → f (page_at t i) ≡ true → lowest f (n - i) i t ≡ i
-lowest-found f n i t h e =
-    let more : n - i ≡ suc (n - (i + 1)) = omega arith in
-    rw (more, e)
-
-pub lowest-next : (f : Page → Bool) (n i : ℕ) (t : List ℕ) → i < n → f (page_at t i) ≡ false → lowest f (n - i) i t ≡ lowest f (n - (i + 1)) (i + 1) t
-lowest-next f n i t h e =
-    let more : n - i ≡ suc (n - (i + 1)) = omega arith in
-    rw (more, e, add-one i)
-
-pub lowest-end : (f : Page → Bool) (n i : ℕ) (t : List ℕ) → n ≤ i → lowest f (n - i) i t ≡ i
-lowest-end f n i t h =
-    let none : n - i ≡ 0 = omega arith in
-    rw none
-
 module _ (f : Page → Bool) (t : List ℕ) where
   -- below the lowest page there is none
   pub lowest-first : (n i k : ℕ) → i ≤ k → k < lowest f n i t → f (page_at t k) ≡ false
@@ -206,6 +192,12 @@ module _ (f : Page → Bool) (t : List ℕ) where
       go true e x r = e
       go false e x r = r (omega (arith, x))
 
+  lowest-is : (n i k : ℕ) → i ≤ k → k < i + n → f (page_at t k) ≡ true → ((j : ℕ) → i ≤ j → j < k → f (page_at t j) ≡ false) → lowest f n i t ≡ k
+  lowest-is zero i k a b e h = absurd (omega arith)
+  lowest-is (suc n) i k a b e h =
+      ⊎_elim (λ (q : i ≡ k). let here : f (page_at t i) ≡ true = ap (λ (j : ℕ). f (page_at t j)) q ∙ e in rw here q) (λ l. rw (h i (omega arith) l) (lowest-is n (suc i) k l (omega arith) e (λ j x y. h j (omega arith) y)))
+      (eq-or-lt_of_le a)
+
   pub lowest-none : (n i : ℕ) → ((k : ℕ) → i ≤ k → k < i + n → f (page_at t k) ≡ false) → lowest f n i t ≡ i + n
   lowest-none zero i h = omega arith
   lowest-none (suc n) i h =
@@ -221,6 +213,22 @@ module _ (f : Page → Bool) (t : List ℕ) where
   none-some h =
       let end : lowest f (page_count t) 0 t ≡ 0 + page_count t = lowest-none (page_count t) 0 (λ k a b. h k (omega (arith, b))) in
       le-ltb (lowest f (page_count t) 0 t) (page_count t) (omega arith)
+
+-- a search that stops at the first page of a kind, if there is one
+pub first-told : (f : Page → Bool) (t : List ℕ) (n : ℕ) (r : Option ℕ) →
+    MatchOption r ((k : ℕ) → 0 ≤ k → k < n → f (page_at t k) ≡ false)
+    (λ i. (0 ≤ i) × (i < n) × (f (page_at t i) ≡ true) × ((k : ℕ) → 0 ≤ k → k < i → f (page_at t k) ≡ false)) →
+    r ≡ found n (lowest f n 0 t)
+first-told f t n None h = rw (lowest-none f t n 0 (λ k a b. h k a (omega arith)), le-ltb (0 + n) n (omega arith))
+first-told f t n (Some i) h = rw (lowest-is f t n 0 i h.0 (omega arith) h.2 h.3, lt-ltb i n h.1)
+
+pub first-some : (f : Page → Bool) (t : List ℕ) → is_some (first_page f t) ≡ some f t
+unfolding some
+first-some f t = go (ltb (lowest f (page_count t) 0 t) (page_count t))
+  where
+    go : (b : Bool) → is_some (cond b (Some (lowest f (page_count t) 0 t)) None) ≡ b
+    go true = refl
+    go false = refl
 
 pub some-lowest : (f : Page → Bool) (t : List ℕ) → some f t ≡ true → Lowest f t (lowest f (page_count t) 0 t)
 unfolding some

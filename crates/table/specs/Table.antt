@@ -1,5 +1,5 @@
 -- The table: two words a page.
-use Rattle.std.specs.Prelude.{◌≡◌, Bool, true, false, cond, not, ◌&&◌, List, [], ◌∷◌, ℕ, zero, suc, ◌+◌, ◌*◌, ◌/◌, ◌%◌, ◌<◌, length, get_or, set, eqb, ltb, leb}
+use Rattle.std.specs.Prelude.{◌≡◌, Bool, true, false, cond, not, ◌&&◌, List, [], ◌∷◌, ℕ, zero, suc, ◌+◌, ◌*◌, ◌/◌, ◌%◌, ◌<◌, length, get_or, set, eqb, ltb, leb, Option, Some, None}
 use Rattle.page.specs.Page.{Page, page_of}
 use Rattle.page.specs.declared.PageWords.{PageWords}
 
@@ -35,6 +35,14 @@ sweep_of f (word ∷ mark ∷ t) = let w = f (record { word = word; mark = mark 
 abbrev pub lowest : (Page → Bool) → ℕ → ℕ → List ℕ → ℕ
 lowest f zero i t = i
 lowest f (suc n) i t = cond (f (page_at t i)) i (lowest f n (suc i) t)
+
+-- a page of so many, as the end of a search; none where it is past the last
+abbrev pub found : ℕ → ℕ → Option ℕ
+found pages page = cond (ltb page pages) (Some page) None
+
+-- the lowest page of which f holds, if there is one
+abbrev pub first_page : (Page → Bool) → List ℕ → Option ℕ
+first_page f t = found (page_count t) (lowest f (page_count t) 0 t)
 
 -- f holds of some page
 unfoldable pub some : (Page → Bool) → List ℕ → Bool

@@ -6,7 +6,7 @@
 ghost use Rattle.std.specs.Prelude.{◌≡◌, length, replicate};
 ghost use Rattle.page.specs.Page.{on_words, sought};
 ghost use Rattle.page.specs.Sweeps.{swept_by};
-ghost use Rattle.table.specs.Table.{legal, page_count, words_at, put_at, sweep_of, lowest, some};
+ghost use Rattle.table.specs.Table.{legal, words_at, put_at, sweep_of, first_page, some};
 
 use page::queries::Sought;
 use page::sweeps::Sweep;
@@ -47,46 +47,30 @@ pub fn store(table: &mut [u64], at: usize, w: PageWords)
 pub fn sweep_all(table: &mut [u64], k: Sweep)
     ensures { table.new ≡ sweep_of (on_words (swept_by k)) table.old }
 {
-    let n = table.len() / 2;
-    let mut i: usize = 0;
-    while i < n {
-        let before = load(&table[..], i);
+    for i in 0..table.len() / 2 {
+        let before = load(table, i);
         let after = sweeps::sweep_words(k, before);
         store(table, i, after);
-        i = i + 1;
     }
 }
 
-// The lowest page of a kind; the number of pages where there is none.
-pub fn find(table: &[u64], k: Sought) -> usize
-    ensures { result ≡ lowest (sought k) (page_count table.now) 0 table.now }
+// The lowest page of a kind.
+pub fn find(table: &[u64], k: Sought) -> Option<usize>
+    ensures { result ≡ first_page (sought k) table.now }
 {
-    let n = table.len() / 2;
-    let mut i: usize = 0;
-    while i < n {
-        let w = load(table, i);
-        if queries::is_sought(k, w) {
-            return i;
-        }
-        i = i + 1;
-    }
-    n
+    (0..table.len() / 2).find(|i| queries::is_sought(k, load(table, *i)))
 }
 
 // There is a page of the kind.
 pub fn has(table: &[u64], k: Sought) -> bool
     ensures { result ≡ some (sought k) table.now }
 {
-    find(table, k) < table.len() / 2
+    find(table, k).is_some()
 }
 
 // Every word 0.
 pub fn clear(table: &mut [u64])
     ensures { table.new ≡ replicate (length table.old) 0 }
 {
-    let mut i: usize = 0;
-    while i < table.len() {
-        table[i] = 0;
-        i = i + 1;
-    }
+    table.fill(0);
 }

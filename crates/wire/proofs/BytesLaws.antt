@@ -1,16 +1,19 @@
 -- Words and bytes: how many there are of each, what is read at each place, that reading and writing undo each other, and that a word, a page or a part is
 -- put among bytes as among words. A word's bytes are eight in a row, so most laws go by recursion on the words, eight bytes a step.
+use Rattle.std.specs.Int.{w64, from_le_bytes, to_le_bytes}
+use Rattle.std.proofs.lemmas.List.Edits.{sets-eq}
+use borrow.Rule.Slice.PartMut.{put_mid}
 use mathlib.Core.Path.{◌≡◌, refl, sym, ap, ◌∙◌}
 use mathlib.Core.Logic.{⊎_elim}
 use mathlib.Core.Bool.{Bool, true, false, cond}
-use mathlib.Core.List.{List, [], ◌∷◌, ◌++◌}
-use Prim.Native.Nat.{ℕ, zero, suc, ◌+◌, ◌*◌, ◌/◌, ◌%◌, ◌≤◌, ◌<◌}
+use mathlib.Core.List.{List, [], ◌∷◌, ◌++◌, append_assoc}
+use Prim.Native.Nat.{ℕ, zero, suc, ◌+◌, ◌*◌, ◌/◌, ◌%◌, ◌^◌, ◌≤◌, ◌<◌}
 use native.Mathlib.Omega.{arith}
 use native.Mathlib.Numerals.{add-one}
 use native.Mathlib.Nat.{eq-or-lt_of_le, le_of_suc-le-suc, add_assoc, add-zero}
 use lib.Dec.{ltb}
 use lib.ListN.{length, get_or, set, take, drop, replicate, length-append, length-drop, length-set, get_or-append}
-use lib.Seq.{ext_get_or, get_or_at, get_or-drop, take-suc, take-add, take_all, set-get_or}
+use lib.Seq.{drop-drop, ext_get_or, get_or_at, get_or-drop, take-suc, take-add, take_all, set-get_or}
 use borrow.Author.Tests.{ltb-true}
 use Rattle.page.specs.declared.PageWords.{PageWords}
 use Rattle.table.specs.Table.{page_count, words_at, put_at}
@@ -113,6 +116,41 @@ word_back b y h =
     let first : half_bytes (half_at b 0) ≡ get_or b 0 0 ∷ get_or b 1 0 ∷ get_or b 2 0 ∷ get_or b 3 0 ∷ [] = half_back _ _ _ _ (y 0) (y 1) (y 2) (y 3) in
     let second : half_bytes (half_at b 4) ≡ get_or b 4 0 ∷ get_or b 5 0 ∷ get_or b 6 0 ∷ get_or b 7 0 ∷ [] = half_back _ _ _ _ (y 4) (y 5) (y 6) (y 7) in
     rw (rest, part) ((λ i. first i ++ second i) ∙ sym (take-up b 8 h))
+
+-- the eight bytes of the word at a place
+pub le_read : (b : List ℕ) (at : ℕ) →
+    from_le_bytes w64 (
+    get_or b at 0 ∷ get_or b (at + 1) 0 ∷ get_or b (at + 2) 0 ∷ get_or b (at + 3) 0
+    ∷ get_or b (at + 4) 0 ∷ get_or b (at + 5) 0 ∷ get_or b (at + 6) 0 ∷ get_or b (at + 7) 0 ∷ []
+    )
+    ≡ word_at b at
+unfolding word_at
+le_read b at =
+    let five : at + 4 + 1 ≡ at + 5 = omega arith in
+    let six : at + 4 + 2 ≡ at + 6 = omega arith in
+    let seven : at + 4 + 3 ≡ at + 7 = omega arith in
+    rw (five, six, seven) (omega arith)
+
+pub le_bytes : (x : ℕ) → to_le_bytes w64 x ≡ word_bytes x
+le_bytes x =
+    let a : x % 256 ≡ x % 0x100000000 % 256 = omega arith in
+    let b : x / 256 ^ 1 % 256 ≡ x % 0x100000000 / 256 % 256 = omega arith in
+    let c : x / 256 ^ 2 % 256 ≡ x % 0x100000000 / 256 / 256 % 256 = omega arith in
+    let d : x / 256 ^ 3 % 256 ≡ x % 0x100000000 / 256 / 256 / 256 % 256 = omega arith in
+    let e : x / 256 ^ 4 % 256 ≡ x / 0x100000000 % 256 = omega arith in
+    let f : x / 256 ^ 5 % 256 ≡ x / 0x100000000 / 256 % 256 = omega arith in
+    let g : x / 256 ^ 6 % 256 ≡ x / 0x100000000 / 256 / 256 % 256 = omega arith in
+    let h : x / 256 ^ 7 % 256 ≡ x / 0x100000000 / 256 / 256 / 256 % 256 = omega arith in
+    λ i. a i ∷ b i ∷ c i ∷ d i ∷ e i ∷ f i ∷ g i ∷ h i ∷ []
+
+-- eight bytes that are copied into their place
+pub eight_copied : (b ws : List ℕ) (at n x : ℕ) → n ≡ 8 → at + 8 ≤ length b → ws ≡ to_le_bytes w64 x → put_mid at n b ws ≡ put_word b at x
+unfolding put_word
+eight_copied b ws at n x e h w =
+    ap (put_mid at n b) (w ∙ le_bytes x) ∙ ap (λ (k : ℕ). put_mid at k b (word_bytes x)) e
+    ∙ ap (λ (r : List ℕ). take at b ++ (word_bytes x ++ r)) (drop-drop 8 at b)
+    ∙ sym (append_assoc (take at b) (word_bytes x) (drop (at + 8) b))
+    ∙ sym (sets-eq (word_bytes x) b at h)
 
 words-front : (b : List ℕ) (n : ℕ) → Bytes b → 8 * n ≤ length b → bytes_of (up_to (λ i. word_at b (8 * i)) n) ≡ take (8 * n) b
 words-front b zero y h = refl

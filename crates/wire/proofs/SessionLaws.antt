@@ -1,5 +1,7 @@
 -- A session and its 48 words determine each other, part by part: what is written of a part is read again, passes its tests and is words, and words that pass
 -- its tests are written again as they were. The session's laws are the parts' in a row.
+use Rattle.std.specs.Result.{result_unwrap_or}
+use Rattle.std.specs.Prelude.{Result, Ok, Err}
 use mathlib.Core.Path.{◌≡◌, refl, sym, ap, ap₂, ◌∙◌}
 use mathlib.Core.Bool.{Bool, true, false, cond, not, ◌&&◌, ◌||◌, true≢false}
 use mathlib.Core.List.{List, [], ◌∷◌, ◌++◌}
@@ -9,12 +11,13 @@ use native.Mathlib.Nat.{add-zero, zero-add}
 use lib.Dec.{eqb, ltb, leb, lit<}
 use lib.ListN.{length, get_or, take, drop, take-append-drop, length-drop}
 use lib.Seq.{drop-cons, drop-drop, get_or-drop, take-add, take_all, ext_get_or}
-use borrow.Author.Tests.{leb-true, eqb-true, ltb-true, lt-ltb}
+use borrow.Author.Tests.{leb-true, eqb-true, ltb-true, lt-ltb, ne_eqb}
 use Rattle.refusals.proofs.Laws.{and_left, and_right, either, not-true, not-false}
-use Rattle.session.specs.Session.{phase_number, among, stream_places, resting, work_at, work_of}
+use Rattle.session.specs.Session.{phase_number, NumbersPhase, among, stream_places, resting, work_at, work_of}
 use Rattle.session.specs.Formed.{formed}
 use Rattle.session.specs.declared.Phase.{Phase}
 use Rattle.session.specs.declared.Phase.TheVariants.{Idle, Live, Blackout, Done}
+use Rattle.session.specs.declared.phases.UnknownPhase.{UnknownPhase}
 use Rattle.session.specs.declared.Check.{Check}
 use Rattle.session.specs.declared.Session.{Session}
 use Rattle.session.specs.declared.streams.Work.{Work}
@@ -63,6 +66,14 @@ phase-number (suc zero) e = refl
 phase-number (suc (suc zero)) e = refl
 phase-number (suc (suc (suc zero))) e = refl
 phase-number (suc (suc (suc (suc x)))) e = absurd (omega arith)
+
+pub phase-read : (x : ℕ) (r : Result Phase UnknownPhase) → NumbersPhase x r → result_unwrap_or r Done ≡ phase_of x
+phase-read x (Ok p) e = sym (phase-back p) ∙ ap phase_of e
+phase-read x (Err u) e = rw (
+  ne_eqb x 0 (λ z. omega (arith, e.1)),
+  ne_eqb x 1 (λ z. omega (arith, e.1)),
+  ne_eqb x 2 (λ z. omega (arith, e.1)),
+)
 
 own-again : (w : List ℕ) → 5 ≤ length w → own_fits w ≡ true → own_words (session_of w) ≡ take 5 w
 unfolding session_of

@@ -17,11 +17,7 @@ half_bytes x = x % 256 ∷ x / 256 % 256 ∷ x / 256 / 256 % 256 ∷ x / 256 / 2
 abbrev pub word_bytes : ℕ → List ℕ
 word_bytes x = half_bytes (x % 0x100000000) ++ half_bytes (x / 0x100000000)
 
--- b with the four bytes of x stored one after the other, from at on
-abbrev pub put_half : List ℕ → ℕ → ℕ → List ℕ
-put_half b at x = sets b at (half_bytes x)
-
--- the same with the eight bytes of x
+-- b with the eight bytes of x stored one after the other, from at on
 unfoldable pub put_word : List ℕ → ℕ → ℕ → List ℕ
 put_word b at x = sets b at (word_bytes x)
 

@@ -1,10 +1,10 @@
 // The session where it lies: 48 words in its bytes, part by part: its own numbers, the check, and five words for each stream. Each part is tested, read and
 // written in its place. No more is read than is asked for, and a change writes its own words alone.
-ghost use Rattle.std.specs.Prelude.{◌&&◌, ◌≡◌, ◌*◌, length};
-ghost use Rattle.session.specs.Session.{phase_number, work_of};
+ghost use Rattle.std.specs.Prelude.{◌&&◌, ◌≡◌};
+ghost use Rattle.session.specs.Session.{work_of};
 ghost use Rattle.session.specs.Formed.{epoch_in, formed, busy};
 ghost use Rattle.wire.specs.Bytes.{words_of, bytes_of, put_words};
-ghost use Rattle.wire.specs.Sessions.{session_length, phase_of, own_words, bit_of, check_words, fits, session_of, session_words, written_by};
+ghost use Rattle.wire.specs.Sessions.{phase_of, own_words, check_words, fits, session_of, session_words, written_by};
 
 use crate::{bytes, streams};
 use page::Clock;
@@ -15,50 +15,24 @@ use session::{Check, FEWEST_CREATED, LAST_EPOCH, MOST_CREATED, Phase, Session, c
 // How many words a session is.
 pub const SESSION_WORDS: usize = 48;
 
+// And how many bytes.
+pub const SESSION_BYTES: usize = 8 * SESSION_WORDS;
+
 // ---- its own numbers: words 0 to 4
 
-fn phase_of(x: u64) -> Phase
-    ensures { result ≡ phase_of x }
-{
-    if x == 0 {
-        return Phase::Idle;
-    }
-    if x == 1 {
-        return Phase::Live;
-    }
-    if x == 2 {
-        return Phase::Blackout;
-    }
-    Phase::Done
-}
-
-fn number_of(p: Phase) -> u64
-    ensures { result ≡ phase_number p }
-{
-    match p {
-        Phase::Idle => 0,
-        Phase::Live => 1,
-        Phase::Blackout => 2,
-        Phase::Done => 3,
-    }
-}
-
-pub fn phase_at(b: &[u8]) -> Phase
-    requires { length b.now ≡ 8 * session_length }
+pub fn phase_at(b: &[u8; SESSION_BYTES]) -> Phase
     ensures { result ≡ (session_of (words_of b.now)).phase }
 {
-    phase_of(bytes::number(b, 0))
+    Phase::try_from(bytes::number(b, 0)).unwrap_or(Phase::Done)
 }
 
-pub fn pages_at(b: &[u8]) -> usize
-    requires { length b.now ≡ 8 * session_length }
+pub fn pages_at(b: &[u8; SESSION_BYTES]) -> usize
     ensures { result ≡ (session_of (words_of b.now)).fixed.pages }
 {
     bytes::number(b, 1) as usize
 }
 
-pub fn clock_at(b: &[u8]) -> Clock
-    requires { length b.now ≡ 8 * session_length }
+pub fn clock_at(b: &[u8; SESSION_BYTES]) -> Clock
     ensures { result ≡ (session_of (words_of b.now)).clock }
 {
     Clock {
@@ -66,33 +40,29 @@ pub fn clock_at(b: &[u8]) -> Clock
     }
 }
 
-pub fn epoch_at(b: &[u8]) -> u64
-    requires { length b.now ≡ 8 * session_length }
+pub fn epoch_at(b: &[u8; SESSION_BYTES]) -> u64
     ensures { result ≡ (session_of (words_of b.now)).epoch }
 {
     bytes::number(b, 3)
 }
 
-pub fn created_at(b: &[u8]) -> u64
-    requires { length b.now ≡ 8 * session_length }
+pub fn created_at(b: &[u8; SESSION_BYTES]) -> u64
     ensures { result ≡ (session_of (words_of b.now)).fixed.created }
 {
     bytes::number(b, 4)
 }
 
-fn put_own(b: &mut [u8], s: Session)
-    requires { length b.old ≡ 8 * session_length }
+fn put_own(b: &mut [u8; SESSION_BYTES], s: Session)
     ensures { b.new ≡ put_words b.old 0 (own_words s) }
 {
-    let p = s.phase;
-    bytes::put_number(b, 0, number_of(p));
+    bytes::put_number(b, 0, u64::from(s.phase));
     bytes::put_number(b, 1, s.fixed.pages as u64);
     bytes::put_number(b, 2, s.clock.tlb);
     bytes::put_number(b, 3, s.epoch);
     bytes::put_number(b, 4, s.fixed.created);
 }
 
-// The migration epoch is 0 in Idle, else 1 to 65,535.
+// The migration epoch is 0 in Idle, else 1 to 65,535. By the phase's number: a `match` would be a jump.
 fn is_epoch_in(phase: u64, epoch: u64) -> bool
     ensures { result ≡ epoch_in (phase_of phase) epoch }
 {
@@ -102,14 +72,7 @@ fn is_epoch_in(phase: u64, epoch: u64) -> bool
 
 // ---- the check: words 5 to 7
 
-fn bit_of(b: bool) -> u64
-    ensures { result ≡ bit_of b }
-{
-    if b { 1 } else { 0 }
-}
-
-pub fn check_at(b: &[u8]) -> Check
-    requires { length b.now ≡ 8 * session_length }
+pub fn check_at(b: &[u8; SESSION_BYTES]) -> Check
     ensures { result ≡ (session_of (words_of b.now)).check }
 {
     Check {
@@ -119,37 +82,29 @@ pub fn check_at(b: &[u8]) -> Check
     }
 }
 
-fn put_check(b: &mut [u8], c: Check)
-    requires { length b.old ≡ 8 * session_length }
+fn put_check(b: &mut [u8; SESSION_BYTES], c: Check)
     ensures { b.new ≡ put_words b.old 5 (check_words c) }
 {
-    let complete = bit_of(c.complete);
-    let failed = bit_of(c.failed);
     bytes::put_number(b, 5, c.place as u64);
-    bytes::put_number(b, 6, complete);
-    bytes::put_number(b, 7, failed);
+    bytes::put_number(b, 6, u64::from(c.complete));
+    bytes::put_number(b, 7, u64::from(c.failed));
 }
 
 // ---- the streams
 
-// Some stream is interrupted.
-pub fn is_busy(b: &[u8]) -> bool
-    requires { length b.now ≡ 8 * session_length }
+// Some stream is interrupted. Every flag is read: `any` would jump at each.
+pub fn is_busy(b: &[u8; SESSION_BYTES]) -> bool
     ensures { result ≡ busy (session_of (words_of b.now)) }
 {
     let mut any = false;
-    let mut i: usize = 0;
-    while i < STREAM_PLACES {
-        let flag = bytes::number(b, streams::stream_place(i));
-        any = any | (flag != 0);
-        i = i + 1;
+    for i in 0..STREAM_PLACES {
+        any |= bytes::number(b, streams::stream_place(i)) != 0;
     }
     any
 }
 
 // What a stream is doing; at rest where the session has no place for it.
-pub fn work_at(b: &[u8], stream: u64) -> Work
-    requires { length b.now ≡ 8 * session_length }
+pub fn work_at(b: &[u8; SESSION_BYTES], stream: u64) -> Work
     ensures { result ≡ work_of (session_of (words_of b.now)) stream }
 {
     if stream < STREAM_PLACES as u64 {
@@ -168,9 +123,8 @@ pub fn work_at(b: &[u8], stream: u64) -> Work
 
 // ---- all of it
 
-// The session's words are in the layout and it is well-formed, with a table of `len` words.
-pub fn is_formed(b: &[u8], len: usize) -> bool
-    requires { length b.now ≡ 8 * session_length }
+// The session's words are in the layout and it is well-formed, with a table of `len` words. The phase is a number here too: a `match` on it would be a jump.
+pub fn is_formed(b: &[u8; SESSION_BYTES], len: usize) -> bool
     ensures { result ≡ (fits (words_of b.now) && formed (session_of (words_of b.now)) len) }
 {
     let phase = bytes::number(b, 0);
@@ -197,18 +151,17 @@ pub fn is_formed(b: &[u8], len: usize) -> bool
 }
 
 // What a change writes, and no other word.
-pub fn put_change(b: &mut [u8], c: Change)
-    requires { length b.old ≡ 8 * session_length }
+pub fn put_change(b: &mut [u8; SESSION_BYTES], c: Change)
     ensures { b.new ≡ written_by c b.old }
 {
     match c {
         Change::Nothing => {}
-        Change::ToPhase { phase } => bytes::put_number(b, 0, number_of(phase)),
+        Change::ToPhase { phase } => bytes::put_number(b, 0, u64::from(phase)),
         Change::ToEpoch { epoch } => bytes::put_number(b, 3, epoch),
         Change::ToClock { clock } => bytes::put_number(b, 2, clock.tlb),
         Change::ToCheck { check } => put_check(b, check),
         Change::Begin { phase, epoch } => {
-            bytes::put_number(b, 0, number_of(phase));
+            bytes::put_number(b, 0, u64::from(phase));
             bytes::put_number(b, 3, epoch);
             put_check(b, changes::no_check());
             streams::rest_streams(b);
@@ -222,8 +175,7 @@ pub fn put_change(b: &mut [u8], c: Change)
 }
 
 // The whole session, as New makes it.
-pub fn put_session(b: &mut [u8], s: Session)
-    requires { length b.old ≡ 8 * session_length }
+pub fn put_session(b: &mut [u8; SESSION_BYTES], s: Session)
     ensures { b.new ≡ bytes_of (session_words s) }
 {
     put_own(b, s);

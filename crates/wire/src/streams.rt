@@ -2,8 +2,9 @@
 ghost use Rattle.std.specs.Prelude.{◌≡◌, ◌+◌, ◌*◌, ◌<◌, ◌≤◌, length, replicate};
 ghost use Rattle.session.specs.Session.{stream_places};
 ghost use Rattle.wire.specs.Bytes.{words_of, put_words};
-ghost use Rattle.wire.specs.Sessions.{session_length, streams_place, stream_place, five_at, stream_formed, streams_formed, work_words, five, streams_from};
+ghost use Rattle.wire.specs.Sessions.{streams_place, stream_place, five_at, stream_formed, streams_formed, work_words, five, streams_from};
 
+use crate::sessions::SESSION_BYTES;
 use crate::{bytes, tables};
 use session::streams::{LAST_ENTRY, STREAM_PLACES, Work};
 use session::{Session, streams};
@@ -53,20 +54,13 @@ fn is_stream(x: StreamWords, able: bool) -> bool
 }
 
 // Every stream is as it may be, where so many are created and the phase is one in which they move, or not.
-pub fn are_streams(b: &[u8], created: u64, moves: bool) -> bool
-    requires { length b.now ≡ 8 * session_length }
+pub fn are_streams(b: &[u8; SESSION_BYTES], created: u64, moves: bool) -> bool
     ensures { result ≡ streams_formed moves created (words_of b.now) }
 {
-    let mut i: usize = 0;
-    while i < STREAM_PLACES {
-        let x = five_at(b, stream_place(i));
-        let good = is_stream(x, (i as u64 + 1 < created) & moves);
-        if !good {
-            return false;
-        }
-        i = i + 1;
-    }
-    true
+    (0..STREAM_PLACES).all(|i| is_stream(
+        five_at(b, stream_place(i)),
+        (i as u64 + 1 < created) & moves,
+    ))
 }
 
 fn put_five(b: &mut [u8], at: usize, x: StreamWords)
@@ -106,31 +100,25 @@ fn stream_words(work: Work) -> StreamWords
     }
 }
 
-pub fn put_work(b: &mut [u8], i: usize, work: Work)
-    requires b_len { length b.old ≡ 8 * session_length }
-    requires i_lt_stream_places { i < stream_places }
+pub fn put_work(b: &mut [u8; SESSION_BYTES], i: usize, work: Work)
+    requires { i < stream_places }
     ensures { b.new ≡ put_words b.old (stream_place i) (five (work_words work)) }
 {
     put_five(b, stream_place(i), stream_words(work));
 }
 
 // All at rest.
-pub fn rest_streams(b: &mut [u8])
-    requires { length b.old ≡ 8 * session_length }
+pub fn rest_streams(b: &mut [u8; SESSION_BYTES])
     ensures { b.new ≡ put_words b.old streams_place (replicate (5 * stream_places) 0) }
 {
     tables::clear(&mut b[64..384]);
 }
 
 // Those of a session.
-pub fn put_streams(b: &mut [u8], s: Session)
-    requires { length b.old ≡ 8 * session_length }
+pub fn put_streams(b: &mut [u8; SESSION_BYTES], s: Session)
     ensures { b.new ≡ put_words b.old streams_place (streams_from s stream_places 0) }
 {
-    let mut i: usize = 0;
-    while i < STREAM_PLACES {
-        let work = streams::work_of(s, i as u64);
-        put_work(b, i, work);
-        i = i + 1;
+    for i in 0..STREAM_PLACES {
+        put_work(b, i, streams::work_of(s, i as u64));
     }
 }

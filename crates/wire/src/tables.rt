@@ -3,7 +3,7 @@
 ghost use Rattle.std.specs.Prelude.{◌≡◌, ◌%◌, length, replicate};
 ghost use Rattle.page.specs.Page.{on_words, sought};
 ghost use Rattle.page.specs.Sweeps.{swept_by};
-ghost use Rattle.table.specs.Table.{page_count, words_at, sweep_of, lowest, some};
+ghost use Rattle.table.specs.Table.{words_at, sweep_of, first_page, some};
 ghost use Rattle.wire.specs.Bytes.{words_of, bytes_of};
 ghost use Rattle.wire.specs.Tables.{put_page};
 
@@ -38,7 +38,7 @@ pub fn replace(b: &mut [u8], at: usize, before: PageWords, after: PageWords)
     requires { (length b.old % 8 ≡ 0) × (before ≡ words_at (words_of b.old) at) }
     ensures { b.new ≡ put_page b.old at after }
 {
-    if (after.word != before.word) | (after.mark != before.mark) {
+    if after != before {
         store(b, at, after);
     }
 }
@@ -48,46 +48,30 @@ pub fn sweep_all(b: &mut [u8], k: Sweep)
     requires { length b.old % 8 ≡ 0 }
     ensures { b.new ≡ bytes_of (sweep_of (on_words (swept_by k)) (words_of b.old)) }
 {
-    let n = b.len() / 16;
-    let mut i: usize = 0;
-    while i < n {
-        let before = load(&b[..], i);
+    for i in 0..b.len() / 16 {
+        let before = load(b, i);
         let after = sweeps::sweep_words(k, before);
         store(b, i, after);
-        i = i + 1;
     }
 }
 
-// The lowest page of a kind; the number of pages where there is none.
-pub fn find(b: &[u8], k: Sought) -> usize
-    ensures { result ≡ lowest (sought k) (page_count (words_of b.now)) 0 (words_of b.now) }
+// The lowest page of a kind.
+pub fn find(b: &[u8], k: Sought) -> Option<usize>
+    ensures { result ≡ first_page (sought k) (words_of b.now) }
 {
-    let n = b.len() / 16;
-    let mut i: usize = 0;
-    while i < n {
-        let w = load(b, i);
-        if queries::is_sought(k, w) {
-            return i;
-        }
-        i = i + 1;
-    }
-    n
+    (0..b.len() / 16).find(|i| queries::is_sought(k, load(b, *i)))
 }
 
 // There is a page of the kind.
 pub fn has(b: &[u8], k: Sought) -> bool
     ensures { result ≡ some (sought k) (words_of b.now) }
 {
-    find(b, k) < b.len() / 16
+    find(b, k).is_some()
 }
 
 // Every byte 0.
 pub fn clear(b: &mut [u8])
     ensures { b.new ≡ replicate (length b.old) 0 }
 {
-    let mut i: usize = 0;
-    while i < b.len() {
-        b[i] = 0;
-        i = i + 1;
-    }
+    b.fill(0);
 }

@@ -1,130 +1,113 @@
 // Words of document 01, built from their fields: what goes into the marked table and what comes out, info words and records.
-use crate::print;
+use records::Record;
 use std::io::{self, Write};
-use words::entries::Entry;
+use words::entries::{Entry, set_state};
 use words::infos::Info;
-use words::{entries, hints, operations, states, statuses};
+use words::statuses::Failure;
+use words::{hints, operations, states, statuses};
 
 // An entry that asks for one page.
 fn asking(gpa: u64, operation: u64) -> u64 {
-    entries::entry_word(Entry {
-        level: 0,
-        pending: false,
-        state: 0,
-        reserved5: 0,
-        l2_map: 0,
-        mig_type: 0,
+    u64::from(Entry {
         gpa,
         operation,
-        reserved54: 0,
-        status: 0,
-        reserved61: 0,
+        ..Entry::from(0)
     })
 }
 
 // An entry as an export gives it back.
 fn answered(w: u64, operation: u64, pending: bool, status: u64) -> u64 {
-    let cleared = entries::set_l2_map(entries::set_state(w, 0), 0);
-    let done = entries::set_pending(entries::set_operation(cleared, operation), pending);
-    entries::set_status(done, status)
+    u64::from(Entry {
+        pending,
+        state: 0,
+        l2_map: 0,
+        operation,
+        status,
+        ..Entry::from(w)
+    })
 }
 
-fn line(out: &mut impl Write, name: &[u8], before: u64, after: u64) -> io::Result<()> {
-    print::text(out, name)?;
-    print::word(out, b"in", before)?;
-    print::word(out, b"out", after)?;
-    print::end(out)
+// As a call that did not do what it was asked gives it back.
+fn failed(w: u64, failure: Failure) -> u64 {
+    answered(w, operations::NOP, false, u64::from(failure))
 }
 
-fn failed(out: &mut impl Write, name: &[u8], w: u64, status: u64) -> io::Result<()> {
-    line(out, name, w, answered(w, operations::NOP, false, status))
-}
-
-fn done(
-    out: &mut impl Write,
-    name: &[u8],
-    w: u64,
-    operation: u64,
-    pending: bool,
-) -> io::Result<()> {
-    line(
-        out,
-        name,
-        w,
-        answered(w, operation, pending, statuses::SUCCESS),
-    )
+fn done(w: u64, operation: u64, pending: bool) -> u64 {
+    answered(w, operation, pending, statuses::SUCCESS)
 }
 
 fn print_marked(out: &mut impl Write) -> io::Result<()> {
     let w = asking(5, operations::MIGRATE);
-    done(out, b"marked 1", w, operations::MIGRATE, false)?;
-    failed(out, b"marked 2", w, statuses::TLB_TRACKING_NOT_DONE)?;
-    failed(out, b"marked 3", w, statuses::PAGE_DIRTY)?;
-    done(out, b"marked 4", w, operations::MIGRATE, true)?;
-    done(out, b"marked 5", w, operations::REMIGRATE, false)?;
-    done(out, b"marked 6", w, operations::CANCEL, false)?;
-    failed(out, b"marked 7", w, statuses::MIGRATED_IN_CURRENT_EPOCH)?;
     // A page number typed where a byte address belongs: 5 is LEVEL 1 with PENDING.
-    let typed = entries::set_pending(entries::set_level(0, 1), true);
-    failed(out, b"marked 8", typed, statuses::GPA_LIST_ENTRY_INVALID)?;
-    failed(
-        out,
-        b"marked 9",
-        asking(20480, operations::MIGRATE),
-        statuses::SEPT_WALK_FAILED,
-    )?;
-    failed(
-        out,
-        b"marked 10",
-        asking(5, operations::NOP),
-        statuses::SKIPPED,
-    )
+    let typed = u64::from(Entry {
+        level: 1,
+        pending: true,
+        ..Entry::from(0)
+    });
+    let unmapped = asking(20480, operations::MIGRATE);
+    let nop = asking(5, operations::NOP);
+    let marked = [
+        (w, done(w, operations::MIGRATE, false)),
+        (w, failed(w, Failure::TlbTrackingNotDone)),
+        (w, failed(w, Failure::PageDirty)),
+        (w, done(w, operations::MIGRATE, true)),
+        (w, done(w, operations::REMIGRATE, false)),
+        (w, done(w, operations::CANCEL, false)),
+        (w, failed(w, Failure::MigratedInCurrentEpoch)),
+        (typed, failed(typed, Failure::GpaListEntryInvalid)),
+        (unmapped, failed(unmapped, Failure::SeptWalkFailed)),
+        (nop, failed(nop, Failure::Skipped)),
+    ];
+    for (i, (before, after)) in marked.iter().enumerate() {
+        writeln!(out, "marked {} in {before:016x} out {after:016x}", i + 1)?;
+    }
+    Ok(())
 }
 
 // What a scan lists for a page that is in EXPORTED with Dirty.
-fn print_scanned(out: &mut impl Write) -> io::Result<()> {
-    let w = asking(5, operations::MIGRATE);
-    print::text(out, b"scanned")?;
-    print::word(out, b"out", entries::set_state(w, hints::EXPORTED_MODIFIED))?;
-    print::end(out)
+fn scanned() -> u64 {
+    set_state(asking(5, operations::MIGRATE), hints::EXPORTED_MODIFIED)
 }
 
-fn info(out: &mut impl Write, name: &[u8], first: u64, last: u64) -> io::Result<()> {
-    let w = words::infos::info_word(Info {
-        format: 0,
+fn info(first: u64, last: u64) -> u64 {
+    u64::from(Info {
         first,
-        hpa: 0,
-        zero52: 0,
         last,
-    });
-    print::text(out, b"info")?;
-    print::word(out, name, w)?;
-    print::end(out)
+        ..Info::from(0)
+    })
 }
 
-fn record(
-    out: &mut impl Write,
-    name: &[u8],
-    state: u8,
-    stamp: u64,
-    migrated: u64,
-) -> io::Result<()> {
-    let w = records::set_migrated(
-        records::set_stamp(records::set_state(0, state), stamp),
+fn record(state: u8, stamp: u64, migrated: u64) -> u64 {
+    u64::from(Record {
+        state,
+        stamp,
         migrated,
-    );
-    print::text(out, b"record")?;
-    print::word(out, name, w)?;
-    print::end(out)
+        ..Record::from(0)
+    })
 }
 
 pub(crate) fn print_all(out: &mut impl Write) -> io::Result<()> {
     print_marked(out)?;
-    print_scanned(out)?;
-    info(out, b"of an empty list", 511, 0)?;
-    info(out, b"of one entry", 0, 0)?;
-    info(out, b"of 512 entries", 0, 511)?;
-    record(out, b"blocked at TLB epoch 2", states::BLOCKED, 2, 0)?;
-    record(out, b"with the largest stamp", states::MAPPED, 65535, 0)?;
-    record(out, b"with the largest epoch", states::EXPORTED, 0, 65535)
+    writeln!(out, "scanned out {:016x}", scanned())?;
+    let words = [
+        ("info of an empty list", info(511, 0)),
+        ("info of one entry", info(0, 0)),
+        ("info of 512 entries", info(0, 511)),
+        (
+            "record blocked at TLB epoch 2",
+            record(states::BLOCKED, 2, 0),
+        ),
+        (
+            "record with the largest stamp",
+            record(states::MAPPED, 65535, 0),
+        ),
+        (
+            "record with the largest epoch",
+            record(states::EXPORTED, 0, 65535),
+        ),
+    ];
+    for (name, w) in &words {
+        writeln!(out, "{name} {w:016x}")?;
+    }
+    Ok(())
 }

@@ -7,6 +7,7 @@ mod lines;
 mod print;
 mod shown;
 
+use lines::Line;
 use std::io::{self, BufWriter, Read, Write};
 
 // How many bytes are read at a time.
@@ -15,7 +16,7 @@ const PIECE: usize = 65536;
 fn main(rt: HostRuntime) -> io::Result<()> {
     let mut out = BufWriter::new(rt.alloc(), io::writer(&rt))?;
     built::print_all(&mut out)?;
-    let mut line = lines::empty();
+    let mut line = Some(Line::default());
     let mut input = rt.reader();
     let mut piece = Vec::with_capacity(rt.alloc(), PIECE)?;
     // At most 4 GiB, so that the program ends.

@@ -1,30 +1,28 @@
-// What the other modules print with.
-use std::io::{self, Write};
+// Lists of names for a line, each with what stands beside it.
+use std::fmt;
 
-pub(crate) fn text(out: &mut impl Write, s: &[u8]) -> io::Result<()> {
-    out.write_all(s)
+// A number beside each name.
+#[derive(Clone, Copy)]
+pub(crate) struct Numbers<'a>(pub &'a [(&'a str, u64)]);
+
+impl fmt::Display for Numbers<'_> {
+    fn fmt<W: fmt::Write>(&self, f: &mut fmt::Formatter<W>) -> fmt::Result {
+        for (name, n) in self.0 {
+            write!(f, " {name} {n}")?;
+        }
+        Ok(())
+    }
 }
 
-pub(crate) fn end(out: &mut impl Write) -> io::Result<()> {
-    text(out, b"\n")
-}
+// A word beside each name.
+#[derive(Clone, Copy)]
+pub(crate) struct Words<'a>(pub &'a [(&'a str, u64)]);
 
-// A name and a number.
-pub(crate) fn number(out: &mut impl Write, name: &[u8], n: u64) -> io::Result<()> {
-    text(out, b" ")?;
-    text(out, name)?;
-    text(out, b" ")?;
-    write!(out, "{n}")
-}
-
-pub(crate) fn flag(out: &mut impl Write, name: &[u8], b: bool) -> io::Result<()> {
-    number(out, name, b as u64)
-}
-
-// A name and a word.
-pub(crate) fn word(out: &mut impl Write, name: &[u8], w: u64) -> io::Result<()> {
-    text(out, b" ")?;
-    text(out, name)?;
-    text(out, b" ")?;
-    write!(out, "{w:016x}")
+impl fmt::Display for Words<'_> {
+    fn fmt<W: fmt::Write>(&self, f: &mut fmt::Formatter<W>) -> fmt::Result {
+        for (name, w) in self.0 {
+            write!(f, " {name} {w:016x}")?;
+        }
+        Ok(())
+    }
 }

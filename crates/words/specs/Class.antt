@@ -1,5 +1,5 @@
 -- The class of a Secure EPT state number, as document 01 lists the numbers.
-use Rattle.std.specs.Prelude.{Bool, false, cond, not, ◌||◌, List, [], ◌∷◌, ℕ, eqb}
+use Rattle.std.specs.Prelude.{Bool, false, cond, not, ◌||◌, List, [], ◌∷◌, ℕ, eqb, codes}
 use Rattle.words.specs.declared.classes.Class.{Class}
 use Rattle.words.specs.declared.classes.Class.TheVariants.{Free, NonLeaf, Leaf, Unlisted}
 
@@ -26,3 +26,10 @@ stands Unlisted n = not (is_in n frees || is_in n non_leaves || is_in n leaves)
 -- the class that stands for a number
 unfoldable pub class_of : ℕ → Class
 class_of n = cond (stands Free n) Free (cond (stands NonLeaf n) NonLeaf (cond (stands Leaf n) Leaf Unlisted))
+
+-- how a class is written
+abbrev pub class_name : Class → List ℕ
+class_name Free = codes "free"
+class_name NonLeaf = codes "non-leaf"
+class_name Leaf = codes "leaf"
+class_name Unlisted = codes "unlisted"

@@ -1,6 +1,6 @@
 -- What the crate promises beyond each function's contract. Of a word that a struct names run by run it is stated once, and serves the record of a page too.
-use Rattle.std.specs.Prelude.{◌≡◌, false, ℕ, ◌+◌, ◌-◌, ◌*◌, ◌/◌, ◌^◌, ◌<◌, T, eqb}
-use Rattle.words.specs.Runs.{bits, low}
+use Rattle.std.specs.Prelude.{◌≡◌, false, ℕ, ◌+◌, ◌-◌, ◌*◌, ◌^◌, ◌<◌, T, eqb}
+use Rattle.words.specs.Runs.{low, FieldAlone}
 use Rattle.words.specs.Class.{stands, class_of}
 use Rattle.words.specs.Entry.{entry_of, entry_word, lowered_entry, EntryFits, with_level, with_pending, with_state, with_l2_map, with_mig_type, with_gpa}
 use Rattle.words.specs.Entry.{with_operation, with_status}
@@ -19,12 +19,6 @@ pub record WordPromises {A : Type 0} (read : ℕ → A) (write : A → ℕ) (low
   pub fits : (w : ℕ) → Fits (read w)
   pub word : (a : A) → write a < 2 ^ 64
   pub low_bits : (a : A) → read (write a) ≡ lowered a
-
--- bits hi:lo of v are x, and every other bit is as in w
-pub record FieldAlone (w v hi lo x : ℕ) : Type 0 where
-  pub field : bits v hi lo ≡ x
-  pub above : v / 2 ^ (hi + 1) ≡ w / 2 ^ (hi + 1)
-  pub below : low lo v ≡ low lo w
 
 -- a setter changes its field alone: the word that reads as w with another value there differs from w in bits hi:lo at most
 abbrev pub Setter : {A : Type 0} → (ℕ → A) → (A → ℕ → A) → ℕ → ℕ → Type 0

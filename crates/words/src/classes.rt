@@ -1,13 +1,28 @@
 // The class of a Secure EPT state number (000, tables 1.7 and 1.8). How it is found is this module's own affair.
-ghost use Rattle.std.specs.Prelude.{◌≡◌};
-ghost use Rattle.words.specs.Class.{class_of};
+ghost use Rattle.std.specs.Prelude.{◌≡◌, Some};
+ghost use Rattle.words.specs.Class.{class_of, class_name};
 
-#[derive(Clone, Copy)]
+use std::fmt;
+
+#[derive(Clone, Copy, Debug, PartialEq, Eq)]
 pub enum Class {
     Free,
     NonLeaf,
     Leaf,
     Unlisted,
+}
+
+impl fmt::Display for Class {
+    ghost output = { λ k. Some (class_name k) };
+
+    fn fmt<W: fmt::Write>(&self, f: &mut fmt::Formatter<W>) -> fmt::Result {
+        f.write_str(match self {
+            Class::Free => "free",
+            Class::NonLeaf => "non-leaf",
+            Class::Leaf => "leaf",
+            Class::Unlisted => "unlisted",
+        })
+    }
 }
 
 pub fn class_of(s: u8) -> Class

@@ -1,10 +1,15 @@
 // A GPA list entry (000, table 1.10): eleven runs that fill the word.
+
+#![tactic(auto, unfolding(crate::specs::Entry::entry_of))]
+
 ghost use Rattle.std.specs.Prelude.{◌≡◌};
 ghost use Rattle.words.specs.Runs.{low};
 ghost use Rattle.words.specs.Entry.{entry_of, entry_word, EntryFits};
 ghost use Rattle.words.specs.Entry.{with_level, with_pending, with_state, with_l2_map, with_mig_type, with_gpa, with_operation, with_status};
 
-#[derive(Clone, Copy)]
+use crate::bits::{placed, put, read};
+
+#[derive(Clone, Copy, Debug, PartialEq, Eq)]
 pub struct Entry {
     pub level: u64,
     pub pending: bool,
@@ -21,40 +26,43 @@ pub struct Entry {
 }
 
 // The word, taken apart.
-pub fn entry_of(w: u64) -> Entry
-    ensures value { result ≡ entry_of w }
-    ensures entry_fits { EntryFits result }
-{
-    Entry {
-        level: w & 0x3,
-        pending: (w >> 2) & 0x1 == 1,
-        state: (w >> 3) & 0x3,
-        reserved5: (w >> 5) & 0x3,
-        l2_map: (w >> 7) & 0x7,
-        mig_type: (w >> 10) & 0x3,
-        gpa: (w >> 12) & 0xff_ffff_ffff,
-        operation: (w >> 52) & 0x3,
-        reserved54: (w >> 54) & 0x3,
-        status: (w >> 56) & 0x1f,
-        reserved61: (w >> 61) & 0x7,
+impl From<u64> for Entry {
+    ghost from_gives = { λ w e. (e ≡ entry_of w) × EntryFits e };
+
+    fn from(w: u64) -> Self {
+        Self {
+            level: read::<1, 0>(w),
+            pending: read::<2, 2>(w) == 1,
+            state: read::<4, 3>(w),
+            reserved5: read::<6, 5>(w),
+            l2_map: read::<9, 7>(w),
+            mig_type: read::<11, 10>(w),
+            gpa: read::<51, 12>(w),
+            operation: read::<53, 52>(w),
+            reserved54: read::<55, 54>(w),
+            status: read::<60, 56>(w),
+            reserved61: read::<63, 61>(w),
+        }
     }
 }
 
 // The word whose runs these are: each number's low bits.
-pub fn entry_word(e: Entry) -> u64
-    ensures { result ≡ entry_word e }
-{
-    (e.level & 0x3)
-        | ((e.pending as u64) << 2)
-        | ((e.state & 0x3) << 3)
-        | ((e.reserved5 & 0x3) << 5)
-        | ((e.l2_map & 0x7) << 7)
-        | ((e.mig_type & 0x3) << 10)
-        | ((e.gpa & 0xff_ffff_ffff) << 12)
-        | ((e.operation & 0x3) << 52)
-        | ((e.reserved54 & 0x3) << 54)
-        | ((e.status & 0x1f) << 56)
-        | ((e.reserved61 & 0x7) << 61)
+impl From<Entry> for u64 {
+    ghost from_gives = { λ e w. w ≡ entry_word e };
+
+    fn from(e: Entry) -> Self {
+        placed::<1, 0>(e.level)
+            | placed::<2, 2>(u64::from(e.pending))
+            | placed::<4, 3>(e.state)
+            | placed::<6, 5>(e.reserved5)
+            | placed::<9, 7>(e.l2_map)
+            | placed::<11, 10>(e.mig_type)
+            | placed::<51, 12>(e.gpa)
+            | placed::<53, 52>(e.operation)
+            | placed::<55, 54>(e.reserved54)
+            | placed::<60, 56>(e.status)
+            | placed::<63, 61>(e.reserved61)
+    }
 }
 
 // Each setter gives the word with another value in its field, a number's low bits, and every other bit as it was.
@@ -62,47 +70,47 @@ pub fn entry_word(e: Entry) -> u64
 pub fn set_level(w: u64, v: u64) -> u64
     ensures { entry_of result ≡ with_level (entry_of w) (low 2 v) }
 {
-    (w & !0x3) | (v & 0x3)
+    put::<1, 0>(w, v)
 }
 
 pub fn set_pending(w: u64, v: bool) -> u64
     ensures { entry_of result ≡ with_pending (entry_of w) v }
 {
-    (w & !(0x1 << 2)) | ((v as u64) << 2)
+    put::<2, 2>(w, u64::from(v))
 }
 
 pub fn set_state(w: u64, v: u64) -> u64
     ensures { entry_of result ≡ with_state (entry_of w) (low 2 v) }
 {
-    (w & !(0x3 << 3)) | ((v & 0x3) << 3)
+    put::<4, 3>(w, v)
 }
 
 pub fn set_l2_map(w: u64, v: u64) -> u64
     ensures { entry_of result ≡ with_l2_map (entry_of w) (low 3 v) }
 {
-    (w & !(0x7 << 7)) | ((v & 0x7) << 7)
+    put::<9, 7>(w, v)
 }
 
 pub fn set_mig_type(w: u64, v: u64) -> u64
     ensures { entry_of result ≡ with_mig_type (entry_of w) (low 2 v) }
 {
-    (w & !(0x3 << 10)) | ((v & 0x3) << 10)
+    put::<11, 10>(w, v)
 }
 
 pub fn set_gpa(w: u64, v: u64) -> u64
     ensures { entry_of result ≡ with_gpa (entry_of w) (low 40 v) }
 {
-    (w & !(0xff_ffff_ffff << 12)) | ((v & 0xff_ffff_ffff) << 12)
+    put::<51, 12>(w, v)
 }
 
 pub fn set_operation(w: u64, v: u64) -> u64
     ensures { entry_of result ≡ with_operation (entry_of w) (low 2 v) }
 {
-    (w & !(0x3 << 52)) | ((v & 0x3) << 52)
+    put::<53, 52>(w, v)
 }
 
 pub fn set_status(w: u64, v: u64) -> u64
     ensures { entry_of result ≡ with_status (entry_of w) (low 5 v) }
 {
-    (w & !(0x1f << 56)) | ((v & 0x1f) << 56)
+    put::<60, 56>(w, v)
 }

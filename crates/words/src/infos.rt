@@ -1,9 +1,14 @@
 // The info word of a GPA list (000, table 1.9): five runs that fill the word.
+
+#![tactic(auto, unfolding(crate::specs::Info::info_of))]
+
 ghost use Rattle.std.specs.Prelude.{◌≡◌};
 ghost use Rattle.words.specs.Runs.{low};
 ghost use Rattle.words.specs.Info.{info_of, info_word, InfoFits, with_format, with_first, with_hpa, with_last};
 
-#[derive(Clone, Copy)]
+use crate::bits::{placed, put, read};
+
+#[derive(Clone, Copy, Debug, PartialEq, Eq)]
 pub struct Info {
     pub format: u64,
     pub first: u64,
@@ -13,28 +18,31 @@ pub struct Info {
 }
 
 // The word, taken apart.
-pub fn info_of(w: u64) -> Info
-    ensures value { result ≡ info_of w }
-    ensures info_fits { InfoFits result }
-{
-    Info {
-        format: w & 0x7,
-        first: (w >> 3) & 0x1ff,
-        hpa: (w >> 12) & 0xff_ffff_ffff,
-        zero52: (w >> 52) & 0x7,
-        last: (w >> 55) & 0x1ff,
+impl From<u64> for Info {
+    ghost from_gives = { λ w x. (x ≡ info_of w) × InfoFits x };
+
+    fn from(w: u64) -> Self {
+        Self {
+            format: read::<2, 0>(w),
+            first: read::<11, 3>(w),
+            hpa: read::<51, 12>(w),
+            zero52: read::<54, 52>(w),
+            last: read::<63, 55>(w),
+        }
     }
 }
 
 // The word whose runs these are: each number's low bits.
-pub fn info_word(x: Info) -> u64
-    ensures { result ≡ info_word x }
-{
-    (x.format & 0x7)
-        | ((x.first & 0x1ff) << 3)
-        | ((x.hpa & 0xff_ffff_ffff) << 12)
-        | ((x.zero52 & 0x7) << 52)
-        | ((x.last & 0x1ff) << 55)
+impl From<Info> for u64 {
+    ghost from_gives = { λ x w. w ≡ info_word x };
+
+    fn from(x: Info) -> Self {
+        placed::<2, 0>(x.format)
+            | placed::<11, 3>(x.first)
+            | placed::<51, 12>(x.hpa)
+            | placed::<54, 52>(x.zero52)
+            | placed::<63, 55>(x.last)
+    }
 }
 
 // Each setter gives the word with another value in its field, a number's low bits, and every other bit as it was.
@@ -42,23 +50,23 @@ pub fn info_word(x: Info) -> u64
 pub fn set_format(w: u64, v: u64) -> u64
     ensures { info_of result ≡ with_format (info_of w) (low 3 v) }
 {
-    (w & !0x7) | (v & 0x7)
+    put::<2, 0>(w, v)
 }
 
 pub fn set_first(w: u64, v: u64) -> u64
     ensures { info_of result ≡ with_first (info_of w) (low 9 v) }
 {
-    (w & !(0x1ff << 3)) | ((v & 0x1ff) << 3)
+    put::<11, 3>(w, v)
 }
 
 pub fn set_hpa(w: u64, v: u64) -> u64
     ensures { info_of result ≡ with_hpa (info_of w) (low 40 v) }
 {
-    (w & !(0xff_ffff_ffff << 12)) | ((v & 0xff_ffff_ffff) << 12)
+    put::<51, 12>(w, v)
 }
 
 pub fn set_last(w: u64, v: u64) -> u64
     ensures { info_of result ≡ with_last (info_of w) (low 9 v) }
 {
-    (w & !(0x1ff << 55)) | ((v & 0x1ff) << 55)
+    put::<63, 55>(w, v)
 }

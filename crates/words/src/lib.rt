@@ -5,6 +5,9 @@
 
 #![tactic(auto)]
 
+// A run of bits, read and put: what the words' own functions have in common.
+pub mod bits;
+
 // The class of a Secure EPT state number.
 pub mod classes;
 // A GPA list entry.
@@ -13,7 +16,6 @@ pub mod entries;
 pub mod infos;
 
 // The numbers that have names.
-pub mod codes;
 pub mod hints;
 pub mod operations;
 pub mod states;

@@ -1,16 +1,25 @@
 // The values of an entry's STATUS that the bench gives (000, table 1.21).
+ghost use Rattle.std.specs.Prelude.{◌≡◌};
+ghost use Rattle.words.specs.Statuses.{failure_number};
+
 pub const SUCCESS: u64 = 0;
 
-pub const SKIPPED: u64 = 1;
+// Why an entry is not taken.
+#[derive(Clone, Copy, Debug, PartialEq, Eq)]
+pub enum Failure {
+    Skipped = 1,
+    SeptWalkFailed = 2,
+    SeptEntryStateIncorrect = 4,
+    TlbTrackingNotDone = 5,
+    MigratedInCurrentEpoch = 7,
+    GpaListEntryInvalid = 15,
+    PageDirty = 17,
+}
 
-pub const SEPT_WALK_FAILED: u64 = 2;
+impl From<Failure> for u64 {
+    ghost from_gives = { λ f n. n ≡ failure_number f };
 
-pub const SEPT_ENTRY_STATE_INCORRECT: u64 = 4;
-
-pub const TLB_TRACKING_NOT_DONE: u64 = 5;
-
-pub const MIGRATED_IN_CURRENT_EPOCH: u64 = 7;
-
-pub const GPA_LIST_ENTRY_INVALID: u64 = 15;
-
-pub const PAGE_DIRTY: u64 = 17;
+    fn from(f: Failure) -> u64 {
+        f as u64
+    }
+}

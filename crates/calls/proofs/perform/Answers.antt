@@ -1,7 +1,7 @@
 -- Each arm is its clause of the definition, by the contract of the call that it makes.
 use mathlib.Core.Path.{refl, sym, ap, ◌∙◌}
 use Rattle.migration.proofs.Laws.{alone-answer, alone-table}
-use Rattle.calls.specs.Calls.{without_numbers, scan_numbers, export_numbers, list_numbers}
+use Rattle.calls.specs.Calls.{without_numbers, token_numbers, scan_numbers, export_numbers, list_numbers}
 use Rattle.calls.proofs.perform.Goals as goal
 
 pub returns-in-New : goal.returns-in-New
@@ -16,7 +16,7 @@ returns-in-New c =
 pub returns-in-OnPage : goal.returns-in-OnPage
 returns-in-OnPage c =
     record {
-      value = rw c.in-OnPage.is (c.without_numbers-in-OnPage.ensures ∙ ap without_numbers c.on_page.ensures.value);
+      value = rw c.in-OnPage.is (c.code_alone.ensures ∙ ap without_numbers (rw c.code_of.ensures c.on_page.ensures.value));
       table_after = rw c.in-OnPage.is c.on_page.ensures.table_after;
       list_after = rw c.in-OnPage.is;
       buffer_after = rw c.in-OnPage.is;
@@ -43,7 +43,7 @@ returns-in-OnSession c =
 pub returns-in-StartToken : goal.returns-in-StartToken
 returns-in-StartToken c =
     record {
-      value = rw c.in-StartToken.is c.start_token.ensures;
+      value = rw c.in-StartToken.is (c.token_numbers.ensures ∙ ap token_numbers c.start_token.ensures.value);
       table_after = rw c.in-StartToken.is;
       list_after = rw c.in-StartToken.is;
       buffer_after = rw c.in-StartToken.is;

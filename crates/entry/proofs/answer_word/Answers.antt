@@ -4,4 +4,4 @@ use Rattle.entry.proofs.answer_word.Goals as goal
 
 pub returns : goal.returns
 unfolding answer_word
-returns c = c.entry_word.ensures
+returns c = c.from.ensures

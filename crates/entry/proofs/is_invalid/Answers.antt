@@ -1,4 +1,4 @@
--- The tests are the definition's.
+-- The test is the definition's.
 use borrow.Author.Rules.{rules}
 use Rattle.entry.specs.Entry.{invalid}
 use Rattle.entry.proofs.is_invalid.Goals as goal

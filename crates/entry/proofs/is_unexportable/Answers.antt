@@ -12,5 +12,5 @@ returns c = rw (
   ← c.is_sent.ensures,
   ← c.is_barred.ensures,
   ← c.is_strange.ensures,
-  ← ap (λ (x : Record). x.dirty) c.record_of-p.ensures.value,
+  ← ap (λ (x : Record). x.dirty) c.from-p.ensures.0,
 )

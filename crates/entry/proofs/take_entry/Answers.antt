@@ -1,20 +1,12 @@
 -- By the status: a success or a failure.
-use borrow.Author.Tests.{eq-eqb, ne_eqb}
 use Rattle.entry.specs.Entry.{taken_of}
+use Rattle.entry.proofs.Laws.{failure-pos}
 use Rattle.entry.proofs.take_entry.Goals as goal
 
-pub returns-then-status-eq-SUCCESS : goal.returns-then-status-eq-SUCCESS
+pub returns-in-Ok : goal.returns-in-Ok
 unfolding taken_of
-returns-then-status-eq-SUCCESS c = rw (
-  ← c.entry_of-e.ensures.value,
-  ← c.status_of-status.ensures,
-  eq-eqb _ _ c.if-status-eq-SUCCESS.true,
-) c.succeed.ensures
+returns-in-Ok c = rw (← c.from-e.ensures.0, ← c.allow_entry.ensures, c.in-Ok.is) c.succeed.ensures
 
-pub returns : goal.returns
+pub returns-in-Err : goal.returns-in-Err
 unfolding taken_of
-returns c = rw (
-  ← c.entry_of-e.ensures.value,
-  ← c.status_of-status.ensures,
-  ne_eqb _ _ c.if-status-eq-SUCCESS.false,
-) c.fail.ensures
+returns-in-Err c = rw (← c.from-e.ensures.0, ← c.allow_entry.ensures, c.in-Err.is, failure-pos c.in-Err.failure) c.fail.ensures

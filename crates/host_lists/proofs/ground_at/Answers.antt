@@ -4,4 +4,4 @@ use Rattle.host_lists.proofs.ground_at.Goals as goal
 
 pub returns : goal.returns
 unfolding ground_of
-returns c = rw (← c.pages_at-pages.ensures, ← c.epoch_at-epoch.ensures, ← c.clock_at-clock.ensures, ← c.phase_at-phase.ensures)
+returns c = rw (← c.pages_at.ensures, ← c.epoch_at.ensures, ← c.clock_at.ensures, ← c.phase_at.ensures)

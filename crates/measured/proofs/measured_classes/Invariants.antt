@@ -1,9 +1,7 @@
-use Rattle.std.proofs.Common.{◌≡◌, ◌-◌, ◌≤◌, length, drop}
+-- What is summed so far, with what is left added to it, is the whole sum.
+use Rattle.std.proofs.Common.{◌≡◌, drop}
 use Rattle.measured.specs.Measured.{summed, classes_sum}
 use Rattle.measured.proofs.measured_classes.Given as goal
 
-abbrev pub invariant-loop-i : goal.invariant-loop-i
-invariant-loop-i l = (l.i ≤ length l.states) × (summed l.sum (drop l.i l.states) ≡ classes_sum l.states)
-
-abbrev pub decreases-loop-i : goal.decreases-loop-i
-decreases-loop-i l = length l.states - l.i
+abbrev pub invariant-loop-s : goal.invariant-loop-s
+invariant-loop-s l = summed l.sum (drop l.s-index l.states) ≡ classes_sum l.states

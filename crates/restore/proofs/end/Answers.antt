@@ -7,6 +7,6 @@ pub returns-then-is_over : goal.returns-then-is_over
 unfolding ended_at
 returns-then-is_over c = rw (sym c.is_over.ensures ∙ c.if-is_over.true, c.info_back-info.ensures)
 
-pub returns : goal.returns
+pub returns-else-is_over : goal.returns-else-is_over
 unfolding ended_at
-returns c = rw (sym c.is_over.ensures ∙ c.if-is_over.false, c.info_back-info.ensures)
+returns-else-is_over c = rw (sym c.is_over.ensures ∙ c.if-is_over.false, c.info_back-info.ensures)

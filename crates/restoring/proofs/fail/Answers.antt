@@ -4,4 +4,4 @@ use Rattle.restoring.proofs.fail.Goals as goal
 
 pub returns : goal.returns
 unfolding left_entry
-returns c = rw c.told_word-told.ensures
+returns c = rw (c.told_word-told.ensures, c.from-status.ensures)

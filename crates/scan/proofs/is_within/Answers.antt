@@ -1,15 +1,18 @@
 -- Past the table the sum is too large; else the difference stands for the sum.
-use Rattle.scan.specs.Scan.{within_table}
-use Rattle.scan.proofs.Laws.{leb-past, and-false}
 use borrow.Author.Tests.{lt-leb}
 use native.Mathlib.Omega.{arith}
 use Prim.Native.Nat.{◌+◌}
+use Rattle.scan.specs.Scan.{within_table}
+use Rattle.scan.proofs.Laws.{leb-past, and-false}
 use Rattle.scan.proofs.is_within.Goals as goal
 
-pub returns-then-pages-first : goal.returns-then-pages-first
+pub returns-in-Some : goal.returns-in-Some
 unfolding within_table
-returns-then-pages-first c = rw (lt-leb (c.args.first + c.args.count) c.args.pages (omega arith), and-false)
+returns-in-Some c =
+    let h = c.in-Some.ensures in
+    let e = leb-past c.args.first c.args.count c.args.pages h.0 in
+    cc
 
-pub returns : goal.returns
+pub returns-in-None : goal.returns-in-None
 unfolding within_table
-returns c = rw (← leb-past _ c.args.count _ c.if-pages-first.false)
+returns-in-None c = rw (lt-leb (c.args.first + c.args.count) c.args.pages (omega (arith, c.in-None.ensures)), and-false)

@@ -1,55 +1,45 @@
--- What is left to scan gives what the whole scan gives: each round either ends with a code or visits its page and goes on to the next.
+-- What is left to scan gives what the whole scan gives: each round either stops or goes on to the next page.
 use borrow.Author.Rules.{rules}
 use Rattle.scan.proofs.Laws.{stop-room, scan-stops, scan-visits, scan-ends, parts}
-use native.Mathlib.Nat.{sub-zero}
+use Prim.Native.Nat.{◌<◌}
+use lib.ListN.{length}
 use native.Mathlib.Omega.{arith}
-use mathlib.Core.Path.{refl, sym, ◌∙◌}
+use mathlib.Core.Path.{sym, ◌∙◌}
+use Rattle.scan.proofs.scan_part.Goals.{then-listed, else-listed}
 use Rattle.scan.proofs.scan_part.Goals as goal
 
-pub loop-i-init : goal.loop-i-init
-loop-i-init c = (search rules, refl, refl, rw sub-zero)
-
-pub shape_of-part-then-code-ne-DONE : goal.shape_of-part-then-code-ne-DONE
-shape_of-part-then-code-ne-DONE c = c.loop-i.invariant.1
-
-pub shape_of-list-then-code-ne-DONE : goal.shape_of-list-then-code-ne-DONE
-shape_of-list-then-code-ne-DONE c = c.loop-i.invariant.2
-
-pub returns-then-code-ne-DONE : goal.returns-then-code-ne-DONE
-returns-then-code-ne-DONE c =
-    let e = sym (scan-stops _ _ _ _ _ _ _ _ _ _ c.loop-i-test.true
-    c.load-words.ensures c.is_blocked-blocked.ensures
-    c.is_listed-listed.ensures c.stop_code-code.ensures c.if-code-ne-DONE.true)
-    ∙ c.loop-i.invariant.3 in
+pub returns-in-Some : goal.returns-in-Some
+returns-in-Some c =
+    let e =
+    sym (scan-stops _ _ _ _ _ _ _ _ _ c.loop-i-test.true c.load-words.ensures c.is_blocked.ensures c.is_listed-listed.ensures _ c.in-Some.ensures)
+    ∙ c.loop-i.invariant in
     record {
       value = (parts e).0;
       part_after = (parts e).1.0;
       list_after = (parts e).1.1;
     }
 
-pub visit-put-requires : goal.visit-put-requires
-visit-put-requires c = stop-room _ _ _ _ _ _ (sym c.stop_code-code.ensures ∙ c.if-code-ne-DONE.false)
+pub visit-requires : goal.visit-requires
+visit-requires c = (omega arith, stop-room _ _ _ _ _ _ c.in_default.ensures c.if-listed.true)
+
+pub overflow_add-put : goal.overflow_add-put
+overflow_add-put c =
+    let room : c.loop-i.put < length c.loop-i.list = stop-room _ _ _ _ _ _ c.in_default.ensures c.if-listed.true in
+    search rules
 
 pub loop-i-preserved : goal.loop-i-preserved
-loop-i-preserved c = (
-  omega arith,
-  c.visit-put.auto.part ∙ c.loop-i.invariant.1,
-  c.visit-put.auto.list ∙ c.loop-i.invariant.2,
-  rw (c.visit-put.ensures.value, c.visit-put.ensures.part_after, c.visit-put.ensures.list_after)
-      (sym (scan-visits _ _ _ _ _ _ _ _ _ _ c.loop-i-test.true c.load-words.ensures
-      c.is_blocked-blocked.ensures c.is_listed-listed.ensures c.stop_code-code.ensures c.if-code-ne-DONE.false)
-      ∙ c.loop-i.invariant.3),
-)
-
-pub shape_of-part : goal.shape_of-part
-shape_of-part c = c.loop-i.invariant.1
-
-pub shape_of-list : goal.shape_of-list
-shape_of-list c = c.loop-i.invariant.2
+loop-i-preserved c =
+    let e =
+    sym (scan-visits _ _ _ _ _ _ _ _ _ c.loop-i-test.true c.load-words.ensures c.is_blocked.ensures c.is_listed-listed.ensures c.in_default.ensures)
+    ∙ c.loop-i.invariant in
+    elim c.if-listed.branch [
+      | then-listed w ↦ rw (w.put-is, w.part-is, w.list-is, w.visit.ensures.part_after, w.visit.ensures.list_after) (rw w.if-listed.true at e)
+      | else-listed w ↦ rw (w.put-is, w.part-is, w.list-is) (rw w.if-listed.false at e)
+    ]
 
 pub returns : goal.returns
 returns c =
-    let e = sym (scan-ends _ _ _ _ _ _ _ c.loop-i-test.false c.end_code-code.ensures) ∙ c.loop-i.invariant.3 in
+    let e = sym (scan-ends _ _ _ _ _ _ _ c.loop-i.auto.i-end c.loop-i-test.false c.end.ensures) ∙ c.loop-i.invariant in
     record {
       value = (parts e).0;
       part_after = (parts e).1.0;

@@ -1,12 +1,12 @@
 -- Both ways out are the definition at the test.
-use borrow.Author.Tests.{eq-eqb, ne_eqb}
+use borrow.Author.Rules.{rules}
 use Rattle.scan.specs.Scan.{written_of}
 use Rattle.scan.proofs.written_of.Goals as goal
 
-pub returns-then-put-eq0 : goal.returns-then-put-eq0
+pub returns-in-Some : goal.returns-in-Some
 unfolding written_of
-returns-then-put-eq0 c = rw (eq-eqb _ _ c.if-put-eq0.true)
+returns-in-Some c = search rules
 
-pub returns : goal.returns
+pub returns-in-None : goal.returns-in-None
 unfolding written_of
-returns c = rw (ne_eqb _ _ c.if-put-eq0.false)
+returns-in-None c = search rules

@@ -1,28 +1,15 @@
--- What is left to search gives what the whole search gives: each round either ends with the page it is at or goes on to the next.
-use borrow.Author.Rules.{rules}
-use Rattle.table.proofs.Laws.{lowest-found, lowest-next, lowest-end}
+-- The search stops at the first page of the kind, or at the end.
+use Rattle.std.proofs.lemmas.Iterator.{first_from_Range}
 use Rattle.page.specs.Page.{sought}
-use lib.ListN.{length}
-use native.Mathlib.Nat.{sub-zero}
-use native.Mathlib.Omega.{arith}
-use mathlib.Core.Path.{◌≡◌, sym, ◌∙◌}
-use Prim.Native.Nat.{◌/◌}
+use Rattle.table.specs.Table.{page_count, page_at}
+use Rattle.table.proofs.Laws.{first-told}
+use mathlib.Core.Path.{◌≡◌}
+use mathlib.Core.Bool.{true, false}
+use Rattle.std.proofs.Common.{rules, tests}
 use Rattle.table.proofs.find.Goals as goal
 
-pub loop-i-init : goal.loop-i-init
-loop-i-init c = (search rules, rw sub-zero)
-
-pub returns-then-is_sought : goal.returns-then-is_sought
-returns-then-is_sought c = sym (lowest-found (sought c.args.k) _ _ _ c.loop-i-test.true (rw (← c.load-w.ensures, ← c.is_sought.ensures) c.if-is_sought.true))
-    ∙ c.loop-i.invariant.1
-
-pub loop-i-preserved : goal.loop-i-preserved
-loop-i-preserved c = (
-  omega arith,
-  sym (lowest-next (sought c.args.k) _ _ _ c.loop-i-test.true (rw (← c.load-w.ensures, ← c.is_sought.ensures) c.if-is_sought.false))
-      ∙ c.loop-i.invariant.1,
-)
-
 pub returns : goal.returns
-returns c = let end : c.loop-i.i ≡ length c.args.table.now / 2 = omega arith in
-    sym end ∙ sym (lowest-end (sought c.args.k) _ _ _ c.loop-i-test.false) ∙ c.loop-i.invariant.1
+returns c = let f = sought c.args.k in
+    let t = c.args.table.now in
+    first-told f t (page_count t) c.find.result
+    (first_from_Range _ _ _ c.find.result (λ k. f (page_at t k) ≡ true) (λ k. f (page_at t k) ≡ false) c.find.ensures.ran (λ x q k. search (rules, tests)) (λ x q k. search (rules, tests)))

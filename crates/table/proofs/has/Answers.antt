@@ -1,7 +1,8 @@
--- The search stops before the end exactly where the definition says that it finds one.
-use Rattle.table.specs.Table.{some}
+-- The search finds one exactly where the definition says that there is one.
+use mathlib.Core.Path.{◌∙◌}
+use Rattle.page.specs.Page.{sought}
+use Rattle.table.proofs.Laws.{first-some}
 use Rattle.table.proofs.has.Goals as goal
 
 pub returns : goal.returns
-unfolding some
-returns c = rw (← c.find.ensures)
+returns c = rw c.find.ensures at c.is_some.ensures ∙ first-some (sought c.args.k) c.args.table.now

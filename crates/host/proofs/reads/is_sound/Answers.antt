@@ -3,10 +3,11 @@ use borrow.Author.Tests.{eq-eqb, ne_eqb}
 use Rattle.host.specs.Inside.{sound}
 use Rattle.host.proofs.reads.is_sound.Goals as goal
 
-pub returns-then-session-ne-SESSION_BYTES : goal.returns-then-session-ne-SESSION_BYTES
+pub returns-in_default : goal.returns-in_default
 unfolding sound
-returns-then-session-ne-SESSION_BYTES c = rw (ne_eqb _ _ c.if-session-ne-SESSION_BYTES.true)
+returns-in_default c = rw (ne_eqb _ _ c.in_default.ensures.cases)
 
 pub returns : goal.returns
 unfolding sound
-returns c = rw (eq-eqb _ _ c.if-session-ne-SESSION_BYTES.false, c.is_table-table.ensures, c.is_formed-formed.ensures)
+returns c = let chunk = c.in-Some.ensures.cases in
+    rw (eq-eqb _ _ chunk.long, c.is_table-table.ensures, c.is_formed-formed.ensures, chunk.same)

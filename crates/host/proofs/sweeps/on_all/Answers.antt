@@ -1,43 +1,50 @@
 -- Past 40 what is left is by the verdict (`sweep-left`), and else 40.
 use Rattle.std.proofs.Common.{rules, ℕ, get_or, Fits, w8}
-use mathlib.Core.Path.{refl, sym, ◌∙◌}
-use borrow.Author.Tests.{eq-eqb, ne_eqb}
+use mathlib.Core.Path.{refl, ◌∙◌}
+use Rattle.refusals.specs.Refusals.{number_of}
+use Rattle.refusals.proofs.Laws.{number-pos}
+use Rattle.session.specs.declared.changes.Change.TheVariants.{Nothing}
 use Rattle.calls.specs.declared.Call.TheVariants.{OnAll}
+use Rattle.wire.specs.Sessions.{written_by}
 use Rattle.host.specs.Host.{lent}
-use Rattle.host.proofs.LayoutLaws.{sound-means, table-whole, host-refused}
+use Rattle.host.proofs.LayoutLaws.{sound-means, lent-sound, table-whole, host-unsound, host-unlent}
 use Rattle.host.proofs.SweepLaws.{sweep-left}
 use Rattle.host.proofs.sweeps.on_all.Goals as goal
 
-pub verdict_of-made-requires : goal.verdict_of-made-requires
-verdict_of-made-requires c = (sound-means _ _ (sym c.is_sound.ensures ∙ c.if-is_sound.true)).long
+pub returns-in_err-session : goal.returns-in_err-session
+returns-in_err-session c =
+    let none = rw c.in_err-session.ensures.ok_part at c.as_mut_array.ensures.cases in
+    let e = host-unlent (OnAll c.args.k) (lent c.args.session.now c.args.table.now) none in
+    record { value = rw e (search rules); session_after = rw e; table_after = rw e }
+
+pub returns-in_err-allow_lent : goal.returns-in_err-allow_lent
+returns-in_err-allow_lent c =
+    let chunk = rw c.in_ok-session.ensures.ok_part at c.as_mut_array.ensures.cases in
+    let e = host-unsound (OnAll c.args.k) (lent c.args.session.now c.args.table.now) refl _ (rw chunk.same at c.in_err-allow_lent.ensures) in
+    record { value = rw e (search rules); session_after = rw e chunk.same; table_after = rw e }
 
 pub sweep_all-requires : goal.sweep_all-requires
-sweep_all-requires c = table-whole _ (sound-means _ _ (sym c.is_sound.ensures ∙ c.if-is_sound.true)).table
+sweep_all-requires c = table-whole _ (sound-means _ _ (lent-sound _ _ c.in_ok-allow_lent.ensures)).table
 
-pub put_change-requires : goal.put_change-requires
-put_change-requires c = (sound-means _ _ (sym c.is_sound.ensures ∙ c.if-is_sound.true)).long
-
-pub returns-then-made-eq-DONE : goal.returns-then-made-eq-DONE
-returns-then-made-eq-DONE c =
+pub returns-in_err-change : goal.returns-in_err-change
+unfolding written_by
+returns-in_err-change c =
     let a = c.args in
+    let chunk = rw c.in_ok-session.ensures.ok_part at c.as_mut_array.ensures.cases in
     let x : (i : ℕ) → Fits w8 (get_or a.session.now i 0) = search rules in
     let y : (i : ℕ) → Fits w8 (get_or a.table.now i 0) = search rules in
-    let holds = sym c.is_sound.ensures ∙ c.if-is_sound.true in
-    let left = sweep-left a.k a.session.now a.table.now c.verdict_of-made.result (λ i. (x i).fits) (λ i. (y i).fits) (sound-means _ _ holds) (c.verdict_of-made.ensures holds) in
-    let done = rw (eq-eqb _ _ c.if-made-eq-DONE.true) at left in
-    record { value = done.0; session_after = c.put_change.ensures ∙ done.1.0; table_after = c.sweep_all.ensures ∙ done.1.1 }
-
-pub returns-else-made-eq-DONE : goal.returns-else-made-eq-DONE
-returns-else-made-eq-DONE c =
-    let a = c.args in
-    let x : (i : ℕ) → Fits w8 (get_or a.session.now i 0) = search rules in
-    let y : (i : ℕ) → Fits w8 (get_or a.table.now i 0) = search rules in
-    let holds = sym c.is_sound.ensures ∙ c.if-is_sound.true in
-    let left = sweep-left a.k a.session.now a.table.now c.verdict_of-made.result (λ i. (x i).fits) (λ i. (y i).fits) (sound-means _ _ holds) (c.verdict_of-made.ensures holds) in
-    let done = rw (ne_eqb _ _ c.if-made-eq-DONE.false) at left in
-    record { value = done.0; session_after = done.1.0; table_after = done.1.1 }
+    let holds = lent-sound _ _ c.in_ok-allow_lent.ensures in
+    let refusal = c.in_err-change.field-0.0 in
+    let left = sweep-left a.k a.session.now a.table.now (record { code = number_of refusal; change = Nothing }) (λ i. (x i).fits) (λ i. (y i).fits) (sound-means _ _ (rw chunk.same at holds)) (rw chunk.same at (c.in_err-change.ensures holds)) in
+    let kept = rw (number-pos refusal) at left in
+    record { value = rw (← kept.0) (search rules); session_after = chunk.same ∙ kept.1.0; table_after = kept.1.1 }
 
 pub returns : goal.returns
 returns c =
-    let e = host-refused (OnAll c.args.k) (lent c.args.session.now c.args.table.now) refl (sym c.is_sound.ensures ∙ c.if-is_sound.false) in
-    record { value = rw e; session_after = rw e; table_after = rw e }
+    let a = c.args in
+    let chunk = rw c.in_ok-session.ensures.ok_part at c.as_mut_array.ensures.cases in
+    let x : (i : ℕ) → Fits w8 (get_or a.session.now i 0) = search rules in
+    let y : (i : ℕ) → Fits w8 (get_or a.table.now i 0) = search rules in
+    let holds = lent-sound _ _ c.in_ok-allow_lent.ensures in
+    let done = sweep-left a.k a.session.now a.table.now _ (λ i. (x i).fits) (λ i. (y i).fits) (sound-means _ _ (rw chunk.same at holds)) (rw chunk.same at (c.in_ok-change.ensures holds)) in
+    record { value = done.0; session_after = rw chunk.same at c.put_change.ensures ∙ done.1.0; table_after = c.sweep_all.ensures ∙ done.1.1 }

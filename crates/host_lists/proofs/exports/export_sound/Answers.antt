@@ -1,15 +1,16 @@
--- The code is that of the tests (`coded`): a refusal, or the run in its place (`export-ran`).
+-- A refusal is that of the tests (`coded`); past them there is the run in its place (`export-ran`).
 use Rattle.std.proofs.Common.{rules, get_or, Fits, w8}
 use mathlib.Core.Path.{◌≡◌, refl, sym, ap, ◌∙◌}
-use mathlib.Core.Bool.{true, false, ◌&&◌}
+use mathlib.Core.Bool.{true, ◌&&◌}
 use mathlib.Core.List.{List}
 use native.Mathlib.Omega.{arith}
 use lib.Dec.{eqb, leb}
 use lib.ListN.{length}
-use borrow.Author.Tests.{ne_eqb}
 use Prim.Native.Nat.{ℕ, ◌+◌, ◌/◌, ◌≤◌}
 use Rattle.words.specs.Info.{info_of}
 use Rattle.words.specs.declared.infos.Info.{Info}
+use Rattle.refusals.specs.Refusals.{Test, number_of}
+use Rattle.refusals.specs.declared.Refusal.{Refusal}
 use Rattle.refusals.proofs.Laws.{and_left, and_right}
 use Rattle.session.specs.Session.{moving, work_of}
 use Rattle.session.specs.Formed.{gated, behind, last_entry}
@@ -27,8 +28,8 @@ use Rattle.wire.proofs.BytesLaws.{words-length}
 use Rattle.host.specs.Host.{Lent, lent_all, refused, is_list, in_words, host_of}
 use Rattle.host.proofs.LayoutLaws.{Sound, sound-means, table-whole}
 use Rattle.host.proofs.ListLaws.{list-whole, export-comes}
-use Rattle.host_lists.specs.Inside.{export_gate}
-use Rattle.host_lists.proofs.Gates.{gate_for, listed-passed, listed-refused}
+use Rattle.host_lists.specs.Inside.{ended_numbers, export_gate}
+use Rattle.host_lists.proofs.Gates.{gate_for, behind-refusal, listed-passed, listed-refused}
 use Rattle.host_lists.proofs.Runs.{export-refuses, export-ran}
 use Rattle.host_lists.proofs.exports.export_sound.Goals as goal
 
@@ -40,38 +41,35 @@ module _ (s t l b : List ℕ) (stream resume info : ℕ) where
   abbrev read : Session
   read = session_of (words_of s)
 
-  -- the code is that of the call's tests, behind those of the C side
-  abbrev Coded : ℕ → Type 0
-  Coded code = code ≡ behind (gate_for moving lent_in) (export_tests read (length (words_of l)) (length (words_of b)) stream (eqb resume 1) (info_of info))
+  abbrev asks : List Test
+  asks = export_tests read (length (words_of l)) (length (words_of b)) stream (eqb resume 1) (info_of info)
 
+  -- the call's own tests, behind those of the C side
+  abbrev told : ℕ
+  told = behind (gate_for moving lent_in) asks
+
+  -- the code is theirs
   coded : (gate created : ℕ) (work : Work) (x : Info) (code : ℕ) →
       gate ≡ export_gate s (is_list (length l) && is_list (length b) && leb resume 1) → created ≡ read.fixed.created → work ≡ work_of read stream →
-      x ≡ info_of info → code ≡ behind gate (export_asks created work (length l / 8) (length b / 8) stream (eqb resume 1) x) → Coded code
-  coded gate created work x code g k w i e = rw (words-length l, words-length b, ← i, ← w, ← k, ← g) e
+      x ≡ info_of info → code ≡ behind gate (export_asks created work (length l / 8) (length b / 8) stream (eqb resume 1) x) → told ≡ code
+  coded gate created work x code g k w i e = sym (rw (words-length l, words-length b, ← i, ← w, ← k, ← g) e)
 
-  module _ (h : Sound s (length t)) (code : ℕ) (told : Coded code) where
+  module _ (h : Sound s (length t)) (budget : ℕ) where
     -- a refusal
-    refuses : (budget : ℕ) → eqb code 0 ≡ false → host_of (Export stream (eqb resume 1) info budget) lent_in ≡ refused code lent_in
-    refuses budget n =
-        listed-refused (Export stream (eqb resume 1) info budget) moving (export-comes stream (eqb resume 1) info budget) lent_in h
-        (export_tests read (length (words_of l)) (length (words_of b)) stream (eqb resume 1) (info_of info)) refl
+    refuses : (r : Refusal) → told ≡ number_of r → host_of (Export stream (eqb resume 1) info budget) lent_in ≡ refused (number_of r) lent_in
+    refuses =
+        listed-refused (Export stream (eqb resume 1) info budget) moving (export-comes stream (eqb resume 1) info budget) lent_in h asks refl
         (export-refuses read (words_of t) (words_of l) (words_of b) stream (eqb resume 1) info budget)
-        (ap (λ (n : ℕ). eqb n 0) (sym told) ∙ n)
-        ∙ ap (λ (n : ℕ). refused n lent_in) (sym told)
 
     -- or past them
-    passes : (budget : ℕ) → code ≡ 0 →
-        (in_words lent_in ≡ true)
-        × (gated read (length (words_of t)) moving
-        (export_tests read (length (words_of l)) (length (words_of b)) stream (eqb resume 1) (info_of info)) ≡ 0)
-    passes budget z =
-        listed-passed (Export stream (eqb resume 1) info budget) moving (export-comes stream (eqb resume 1) info budget) lent_in h _ (sym told ∙ z)
+    passes : told ≡ 0 → (in_words lent_in ≡ true) × (gated read (length (words_of t)) moving asks ≡ 0)
+    passes = listed-passed (Export stream (eqb resume 1) info budget) moving (export-comes stream (eqb resume 1) info budget) lent_in h _
 
     -- where the call goes on
-    go_on : (budget : ℕ) → code ≡ 0 → Ready (length (words_of l)) (length (words_of b)) (work_of read stream) (info_of info)
+    go_on : told ≡ 0 → Ready (length (words_of l)) (length (words_of b)) (work_of read stream) (info_of info)
     unfolding export_code
-    go_on budget z =
-        export-ready read (length (words_of t)) (length (words_of l)) (length (words_of b)) stream (eqb resume 1) (info_of info) (passes budget z).1
+    go_on z =
+        export-ready read (length (words_of t)) (length (words_of l)) (length (words_of b)) stream (eqb resume 1) (info_of info) (passes z).1
 
 -- the numbers that it goes on with
 record Goes (at : Progress) (last : ℕ) : Type 0 where
@@ -91,48 +89,35 @@ goes entries room run x y at ready from same =
       short = omega (arith, last, ready.short);
     }
 
-pub gate_at-gate-requires : goal.gate_at-gate-requires
-gate_at-gate-requires c = (sound-means _ _ c.requires).long
-
-pub created_at-created-requires : goal.created_at-created-requires
-created_at-created-requires c = (sound-means _ _ c.requires).long
-
-pub work_at-work-requires : goal.work_at-work-requires
-work_at-work-requires c = (sound-means _ _ c.requires).long
-
-pub ground_at-g-requires : goal.ground_at-g-requires
-ground_at-g-requires c = (sound-means _ _ c.requires).long
-
-pub put_change-requires : goal.put_change-requires
-put_change-requires c = (sound-means _ _ c.requires).long
-
-pub returns-then-code-ne-DONE : goal.returns-then-code-ne-DONE
-returns-then-code-ne-DONE c =
+pub returns-in_err-gate_at : goal.returns-in_err-gate_at
+returns-in_err-gate_at c =
     let a = c.args in
-    let told = coded a.session.now a.table.now a.list.now a.buffer.now a.stream a.resume a.info c.gate_at-gate.result c.created_at-created.result
-    c.work_at-work.result c.info_of-x.result c.export_code-code.result c.gate_at-gate.ensures c.created_at-created.ensures c.work_at-work.ensures
-    c.info_of-x.ensures.value c.export_code-code.ensures in
-    let left = refuses a.session.now a.table.now a.list.now a.buffer.now a.stream a.resume a.info (sound-means _ _ c.requires) c.export_code-code.result
-    told a.budget (ne_eqb _ _ c.if-code-ne-DONE.true) in
-    record {
-      value = rw left c.code_alone.ensures;
-      session_after = rw left;
-      table_after = rw left;
-      list_after = rw left;
-      buffer_after = rw left;
-    }
+    let r = c.in_err-gate_at.field-0.0 in
+    let s = session_of (words_of a.session.now) in
+    let told = coded a.session.now a.table.now a.list.now a.buffer.now a.stream a.resume a.info _ _ _ _ _ c.in_err-gate_at.ensures refl refl refl
+    (behind-refusal r
+    (export_asks s.fixed.created (work_of s a.stream) (length a.list.now / 8) (length a.buffer.now / 8) a.stream (eqb a.resume 1) (info_of a.info))) in
+    let left = refuses a.session.now a.table.now a.list.now a.buffer.now a.stream a.resume a.info (sound-means _ _ c.requires) a.budget r told in
+    record { value = rw left (search rules); session_after = rw left; table_after = rw left; list_after = rw left; buffer_after = rw left }
+
+pub returns-in_err-allow_export : goal.returns-in_err-allow_export
+returns-in_err-allow_export c =
+    let a = c.args in
+    let told = coded a.session.now a.table.now a.list.now a.buffer.now a.stream a.resume a.info _ _ _ _ _ c.in_ok-gate_at.ensures c.created_at.ensures
+    c.work_at-work.ensures c.from-x.ensures.0 c.in_err-allow_export.ensures in
+    let left = refuses a.session.now a.table.now a.list.now a.buffer.now a.stream a.resume a.info (sound-means _ _ c.requires) a.budget
+    c.in_err-allow_export.field-0.0 told in
+    record { value = rw left (search rules); session_after = rw left; table_after = rw left; list_after = rw left; buffer_after = rw left }
 
 pub run_entries-at-requires : goal.run_entries-at-requires
 run_entries-at-requires c =
     let a = c.args in
     let h = sound-means a.session.now (length a.table.now) c.requires in
-    let told = coded a.session.now a.table.now a.list.now a.buffer.now a.stream a.resume a.info c.gate_at-gate.result c.created_at-created.result
-    c.work_at-work.result c.info_of-x.result c.export_code-code.result c.gate_at-gate.ensures c.created_at-created.ensures c.work_at-work.ensures
-    c.info_of-x.ensures.value c.export_code-code.ensures in
-    let p = passes a.session.now a.table.now a.list.now a.buffer.now a.stream a.resume a.info h c.export_code-code.result told a.budget c.if-code-ne-DONE.false in
-    let ready = go_on a.session.now a.table.now a.list.now a.buffer.now a.stream a.resume a.info h c.export_code-code.result told a.budget
-    c.if-code-ne-DONE.false in
-    let g = goes _ _ _ _ c.info_of-x.result c.begin-from.result ready (c.begin-from.ensures ∙ ap begun_by c.work_at-work.ensures) c.info_of-x.ensures.value in
+    let told = coded a.session.now a.table.now a.list.now a.buffer.now a.stream a.resume a.info _ _ _ _ 0 c.in_ok-gate_at.ensures c.created_at.ensures
+    c.work_at-work.ensures c.from-x.ensures.0 c.in_ok-allow_export.ensures in
+    let p = passes a.session.now a.table.now a.list.now a.buffer.now a.stream a.resume a.info h a.budget told in
+    let ready = go_on a.session.now a.table.now a.list.now a.buffer.now a.stream a.resume a.info h a.budget told in
+    let g = goes _ _ _ _ c.from-x.result c.begin-from.result ready (c.begin-from.ensures ∙ ap begun_by c.work_at-work.ensures) c.from-x.ensures.0 in
     let both = and_left (is_list (length a.list.now) && is_list (length a.buffer.now)) (leb a.resume 1) p.0 in
     record {
       table_len = (
@@ -141,7 +126,7 @@ run_entries-at-requires c =
         list-whole _ (and_right (is_list (length a.list.now)) (is_list (length a.buffer.now)) both),
       );
       last_in_bounds = (
-        omega (arith, ap (λ (i : Info). i.last) c.info_of-x.ensures.value, words-length a.list.now, ready.within),
+        omega (arith, ap (λ (i : Info). i.last) c.from-x.ensures.0, words-length a.list.now, ready.within),
         g.short,
         g.next,
         g.errors,
@@ -152,13 +137,11 @@ run_entries-at-requires c =
 pub end-ended-requires : goal.end-ended-requires
 end-ended-requires c =
     let a = c.args in
-    let told = coded a.session.now a.table.now a.list.now a.buffer.now a.stream a.resume a.info c.gate_at-gate.result c.created_at-created.result
-    c.work_at-work.result c.info_of-x.result c.export_code-code.result c.gate_at-gate.ensures c.created_at-created.ensures c.work_at-work.ensures
-    c.info_of-x.ensures.value c.export_code-code.ensures in
-    let ready = go_on a.session.now a.table.now a.list.now a.buffer.now a.stream a.resume a.info (sound-means _ _ c.requires) c.export_code-code.result told
-    a.budget c.if-code-ne-DONE.false in
-    let g = goes _ _ _ _ c.info_of-x.result c.begin-from.result ready (c.begin-from.ensures ∙ ap begun_by c.work_at-work.ensures) c.info_of-x.ensures.value in
-    let bounds = run-bounds (export_step c.ground_at-g.result) c.info_of-x.result.last a.budget
+    let told = coded a.session.now a.table.now a.list.now a.buffer.now a.stream a.resume a.info _ _ _ _ 0 c.in_ok-gate_at.ensures c.created_at.ensures
+    c.work_at-work.ensures c.from-x.ensures.0 c.in_ok-allow_export.ensures in
+    let ready = go_on a.session.now a.table.now a.list.now a.buffer.now a.stream a.resume a.info (sound-means _ _ c.requires) a.budget told in
+    let g = goes _ _ _ _ c.from-x.result c.begin-from.result ready (c.begin-from.ensures ∙ ap begun_by c.work_at-work.ensures) c.from-x.ensures.0 in
+    let bounds = run-bounds (export_step c.ground_at-g.result) c.from-x.result.last a.budget
     (standing c.begin-from.result (words_of a.table.now) (words_of a.list.now) (words_of a.buffer.now))
     (record { next = g.next; counts = record { errors = g.errors; filled = g.filled } }) in
     let ended = c.run_entries-at.ensures.value in
@@ -171,15 +154,15 @@ returns c =
     let fits : (i : ℕ) → Fits w8 (get_or a.session.now i 0) = search rules in
     let y : Bytes a.session.now = λ i. (fits i).fits in
     let h = sound-means a.session.now (length a.table.now) c.requires in
-    let told = coded a.session.now a.table.now a.list.now a.buffer.now a.stream a.resume a.info c.gate_at-gate.result c.created_at-created.result
-    c.work_at-work.result c.info_of-x.result c.export_code-code.result c.gate_at-gate.ensures c.created_at-created.ensures c.work_at-work.ensures
-    c.info_of-x.ensures.value c.export_code-code.ensures in
-    let p = passes a.session.now a.table.now a.list.now a.buffer.now a.stream a.resume a.info h c.export_code-code.result told a.budget c.if-code-ne-DONE.false in
-    let ran = export-ran a.session.now a.table.now a.list.now a.buffer.now y h a.stream a.resume a.info a.budget c.info_of-x.result c.info_of-x.ensures.value
+    let told = coded a.session.now a.table.now a.list.now a.buffer.now a.stream a.resume a.info _ _ _ _ 0 c.in_ok-gate_at.ensures c.created_at.ensures
+    c.work_at-work.ensures c.from-x.ensures.0 c.in_ok-allow_export.ensures in
+    let p = passes a.session.now a.table.now a.list.now a.buffer.now a.stream a.resume a.info h a.budget told in
+    let ran = export-ran a.session.now a.table.now a.list.now a.buffer.now y h a.stream a.resume a.info a.budget c.from-x.result c.from-x.ensures.0
     c.ground_at-g.result c.ground_at-g.ensures c.begin-from.result (c.begin-from.ensures ∙ ap begun_by c.work_at-work.ensures) p.0 p.1 in
+    let ended = rw c.run_entries-at.ensures.value at c.end-ended.ensures in
     record {
-      value = rw (ran, ← c.run_entries-at.ensures.value, ← c.end-ended.ensures) c.numbers_of.ensures;
-      session_after = rw (ran, ← c.run_entries-at.ensures.value, ← c.end-ended.ensures) c.put_change.ensures;
+      value = rw ran (ap ended_numbers ended);
+      session_after = rw (ran, ← ended) c.put_change.ensures;
       table_after = rw ran c.run_entries-at.ensures.table_after;
       list_after = rw ran c.run_entries-at.ensures.list_after;
       buffer_after = rw ran c.run_entries-at.ensures.buffer_after;

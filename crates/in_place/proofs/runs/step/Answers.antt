@@ -39,7 +39,7 @@ returns c = let x = c.args in
     (stepped_by (taken_by x.kind x.g) (standing x.at (words_of t) (words_of l) (words_of x.buffer.now)) _ _ _ _ got
     (c.word_at-word.ensures ∙ sym (words-at l next c.requires.next_in_bounds.0))
     c.held_at-held.ensures
-    (ap (λ (e : Entry). e.gpa) c.entry_of-e.ensures.value)
+    (ap (λ (e : Entry). e.gpa) c.from-e.ensures.0)
     c.load-before.ensures
     c.take-got.ensures)) in
     record {

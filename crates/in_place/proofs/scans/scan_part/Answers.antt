@@ -1,18 +1,18 @@
--- What is left to scan, on the words of the bytes as they stand, gives what the whole scan gives: each round ends with a code or goes on to the next page.
--- At the end the bytes are those of the words.
-use borrow.Author.Rules.{rules}
-use mathlib.Core.Path.{◌≡◌, refl, sym, ◌∙◌}
+-- What is left to scan, on the words of the bytes as they stand, gives what the whole scan gives: each round stops or goes on to the next page. At the end the
+-- bytes are those of the words.
+use mathlib.Core.Path.{refl, sym, ◌∙◌}
 use mathlib.Core.Bool.{Bool}
 use Prim.Native.Nat.{ℕ, ◌≤◌}
 use native.Mathlib.Nat.{sub-zero}
 use native.Mathlib.Omega.{arith}
 use lib.ListN.{length}
-use borrow.Author.Tests.{le-leb, eq-eqb, ne_eqb}
-use Rattle.words.specs.Codes as codes
+use borrow.Author.Tests.{le-leb}
+use Rattle.std.proofs.Common.{Some}
+use Rattle.refusals.specs.declared.Ending.TheVariants.{Interrupted}
 use Rattle.page.specs.Page.{blocked}
 use Rattle.table.specs.Table.{page_at}
 use Rattle.scan.specs.Look.{listed}
-use Rattle.scan.specs.Scan.{stop_code}
+use Rattle.scan.specs.Scan.{stop_code, Stops}
 use Rattle.scan.specs.declared.Scan.{Scan}
 use Rattle.scan.proofs.Laws.{scan-stops, scan-visits, scan-ends}
 use Rattle.wire.specs.Bytes.{words_of}
@@ -20,15 +20,12 @@ use Rattle.in_place.proofs.Laws.{whole-as, scan-written}
 use Rattle.in_place.proofs.scans.scan_part.Goals as goal
 
 -- the budget is asked first
-spent : (scan : Scan) (b l : Bool) (i put room : ℕ) → scan.budget ≤ i → codes.interrupted ≡ stop_code scan b l i put room
+spent : (scan : Scan) (b l : Bool) (i put room : ℕ) → scan.budget ≤ i → Stops (stop_code scan b l i put room) (Some Interrupted)
 unfolding stop_code
-spent scan b l i put room h = rw (le-leb _ _ h)
+spent scan b l i put room h = rw (le-leb _ _ h) (refl, refl)
 
 pub loop-i-init : goal.loop-i-init
 loop-i-init c = let pre = c.requires in (
-  search rules,
-  refl,
-  refl,
   rw sub-zero,
   record { bytes = λ i. (c.type_inv.part i).fits; words = pre.0 },
   record { bytes = λ i. (c.type_inv.list i).fits; words = pre.1 },
@@ -40,35 +37,34 @@ returns-then-scan-i c =
     let scan = c.args.scan in
     let inv = was.invariant in
     let page = page_at (words_of was.part) was.i in
-    scan-written _ _ _ inv.4 inv.5
-    (sym (scan-stops _ scan was.i was.put (words_of was.part) (words_of was.list) _ _ _ codes.interrupted c.loop-i-test.true refl refl refl
-    (spent scan (blocked page) (listed page) was.i was.put (length (words_of was.list)) c.if-scan-i.true) (λ z. omega (arith, z))) ∙ inv.3)) in
+    scan-written _ _ _ inv.1 inv.2
+    (sym (scan-stops _ scan was.i was.put (words_of was.part) (words_of was.list) _ _ _ c.loop-i-test.true refl refl refl Interrupted
+    (spent scan (blocked page) (listed page) was.i was.put (length (words_of was.list)) c.if-scan-i.true)) ∙ inv.0)) in
     record {
       value = all.0;
       part_after = all.1.0;
       list_after = all.1.1;
     }
 
-pub look_at-turn-requires : goal.look_at-turn-requires
-look_at-turn-requires c = let inv = c.loop-i.invariant in
-    (inv.4.words, inv.5.words, omega (arith, c.requires.2, c.loop-i-test.true), c.if-scan-i.false)
+pub look_at-requires : goal.look_at-requires
+look_at-requires c = let inv = c.loop-i.invariant in
+    (inv.1.words, inv.2.words, omega (arith, c.requires.2, c.loop-i-test.true), c.if-scan-i.false)
 
-pub returns-then-turn-ne-DONE : goal.returns-then-turn-ne-DONE
-returns-then-turn-ne-DONE c =
+pub returns-in-Err : goal.returns-in-Err
+returns-in-Err c =
     let all = (let was = c.loop-i in
     let scan = c.args.scan in
     let inv = was.invariant in
-    let did = c.look_at-turn.ensures in
-    let kept = c.look_at-turn.auto in
-    let none = ne_eqb _ _ c.if-turn-ne-DONE.true in
-    let part = rw (← did.code_value, none) at did.part_after in
-    let list = rw (← did.code_value, none) at did.list_after in
+    let did = c.look_at.ensures in
+    let kept = c.look_at.auto in
+    let why = c.in-Err.ensures.value in
+    let part = rw why.1 at did.part_after in
+    let list = rw why.1 at did.list_after in
     scan-written _ _ _
-    (whole-as _ _ kept.part inv.4 (λ i. (c.type_inv.part i).fits))
-    (whole-as _ _ kept.list inv.5 (λ i. (c.type_inv.list i).fits))
+    (whole-as _ _ kept.part inv.1 (λ i. (c.type_inv.part i).fits))
+    (whole-as _ _ kept.list inv.2 (λ i. (c.type_inv.list i).fits))
     (rw (← part, ← list) at
-    (sym (scan-stops _ scan was.i was.put (words_of was.part) (words_of was.list) _ _ _ _ c.loop-i-test.true refl refl refl did.code_value
-    c.if-turn-ne-DONE.true) ∙ inv.3))) in
+    (sym (scan-stops _ scan was.i was.put (words_of was.part) (words_of was.list) _ _ _ c.loop-i-test.true refl refl refl c.in-Err.ending why) ∙ inv.0))) in
     record {
       value = all.0;
       part_after = all.1.0;
@@ -79,26 +75,22 @@ pub loop-i-preserved : goal.loop-i-preserved
 loop-i-preserved c = let was = c.loop-i in
     let scan = c.args.scan in
     let inv = was.invariant in
-    let did = c.look_at-turn.ensures in
-    let kept = c.look_at-turn.auto in
-    let done = eq-eqb _ _ c.if-turn-ne-DONE.false in
-    let put = rw (← did.code_value, done) at did.put_value in
-    let part = rw (← did.code_value, done) at did.part_after in
-    let list = rw (← did.code_value, done) at did.list_after in (
-      omega arith,
-      kept.part ∙ inv.1,
-      kept.list ∙ inv.2,
+    let did = c.in-Ok.ensures in
+    let kept = c.look_at.auto in
+    let none = did.value.0 in
+    let put = rw none at did.value.1 in
+    let part = rw none at did.part_after in
+    let list = rw none at did.list_after in (
       rw (put, part, list)
-          (sym (scan-visits _ scan was.i was.put (words_of was.part) (words_of was.list) _ _ _ _ c.loop-i-test.true refl refl refl did.code_value
-          c.if-turn-ne-DONE.false) ∙ inv.3),
-      whole-as _ _ kept.part inv.4 (λ i. (c.type_inv.part i).fits),
-      whole-as _ _ kept.list inv.5 (λ i. (c.type_inv.list i).fits),
+          (sym (scan-visits _ scan was.i was.put (words_of was.part) (words_of was.list) _ _ _ c.loop-i-test.true refl refl refl none) ∙ inv.0),
+      whole-as _ _ kept.part inv.1 (λ i. (c.type_inv.part i).fits),
+      whole-as _ _ kept.list inv.2 (λ i. (c.type_inv.list i).fits),
     )
 
 pub returns : goal.returns
 returns c =
     let all = (let inv = c.loop-i.invariant in
-    scan-written _ _ _ inv.4 inv.5 (sym (scan-ends _ _ _ _ _ _ _ c.loop-i-test.false c.end_code-code.ensures) ∙ inv.3)) in
+    scan-written _ _ _ inv.1 inv.2 (sym (scan-ends _ _ _ _ _ _ _ c.loop-i.auto.i-end c.loop-i-test.false c.end.ensures) ∙ inv.0)) in
     record {
       value = all.0;
       part_after = all.1.0;

@@ -21,7 +21,7 @@ bounds-list-i-2 c = omega
 pub returns : goal.returns
 unfolding stepped
 returns c =
-    let gpa = ap (λ (e : Entry). e.gpa) c.entry_of-e.ensures.value in
+    let gpa = ap (λ (e : Entry). e.gpa) c.from-e.ensures.0 in
     record {
       value = rw (← gpa, ← c.load-before.ensures, ← c.held_at-held.ensures, ← c.take-got.ensures) c.count-next.ensures;
       table_after = rw (← gpa, ← c.load-before.ensures, ← c.held_at-held.ensures, ← c.take-got.ensures) c.store.ensures;

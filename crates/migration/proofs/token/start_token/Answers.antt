@@ -1,31 +1,40 @@
--- What is looked for is what the token asks for; the numbers of its case are by the law.
-use mathlib.Core.Path.{◌≡◌, refl}
+-- A refusal before the look at the table is by the session alone; past it, the case is by what is found.
+use mathlib.Core.Path.{◌≡◌, sym, ◌∙◌}
 use mathlib.Core.List.{List}
 use Prim.Native.Nat.{ℕ}
-use borrow.Author.Tests.{eq-eqb, le-leb}
-use Rattle.session.specs.Session.{phases_of}
-use Rattle.session.specs.declared.When.TheVariants.{Blackout}
+use Rattle.std.proofs.Common.{Result, Ok, arith}
+use Rattle.std.proofs.lemmas.Result.{err_from_is_err_and}
 use Rattle.session.specs.declared.Session.{Session}
-use Rattle.session.proofs.Laws.{gate-first}
-use Rattle.migration.specs.Token.{token_says, token_gate, token_code, in_the_way, token_out}
-use Rattle.migration.specs.declared.token.TokenAnswer.{TokenAnswer}
-use Rattle.migration.proofs.Laws.{token-numbers, token-told}
+use Rattle.session.proofs.Laws.{gate-refused, gate-passed}
+use Rattle.migration.specs.Token.{token_gate, token_answer_of, token_out}
+use Rattle.migration.specs.declared.token.Obstacle.{Obstacle}
+use Rattle.migration.proofs.Laws.{token-refused, token-passed, token-says, refused-nothing}
 use Rattle.migration.proofs.token.start_token.Goals as goal
 
-numbers : (s : Session) (t : List ℕ) (r : TokenAnswer) → r ≡ token_out s t →
-    token_says r.token ≡ record { code = token_code s t; page = in_the_way (token_code s t) t }
-unfolding token_out
-numbers s t r e = rw e (token-numbers (token_code s t) t)
+abbrev Answered : Session → List ℕ → Result Session Obstacle → Type 0
+Answered s t r = token_answer_of s r ≡ token_out s t
+
+pub returns-in_err-gate : goal.returns-in_err-gate
+returns-in_err-gate c =
+    let value : Answered c.args.s c.args.table.now c.from_residual.result = grind (arith, token-refused, gate-refused) in
+    record { value = value; token_value = token-says c.args.s c.args.table.now _ value }
+
+pub returns-in_err-allow_token : goal.returns-in_err-allow_token
+returns-in_err-allow_token c =
+    let value : Answered c.args.s c.args.table.now c.from_residual-in_err-allow_token.result = grind (arith, token-refused, gate-passed) in
+    record { value = value; token_value = token-says c.args.s c.args.table.now _ value }
+
+pub returns-in_err-look : goal.returns-in_err-look
+returns-in_err-look c =
+    let p = err_from_is_err_and c.from_residual-in_err-look.result c.from_residual-in_err-look.ensures.1 in
+    let e = (rw c.is_busy.ensures at c.in_ok-allow_token.ensures) ∙ sym (gate-passed _ _ _ (token_gate c.args.s) c.in_ok-gate.ensures) in
+    let value : Answered c.args.s c.args.table.now c.from_residual-in_err-look.result =
+    rw (p.1, p.2, ← token-passed c.args.s c.args.table.now e, ← c.in_err-look.ensures, refused-nothing) in
+    record { value = value; token_value = token-says c.args.s c.args.table.now _ value }
 
 pub returns : goal.returns
 returns c =
-    let a = c.args in
-    let t = a.table.now in
-    let gate = rw (c.gate.ensures, c.is_busy-busy.ensures, ← gate-first _ _ (phases_of Blackout) (token_gate a.s)) at c.token_gate-gate.ensures in
-    let told = token-told a.s t _ _ _ _ gate refl (λ z. rw (eq-eqb _ _ z) at c.first-first53.ensures)
-    (λ z h. rw (eq-eqb _ _ z, le-leb _ _ h) at c.first-first54.ensures) in
-    let answer = rw (← c.token_of-token.ensures, ← c.change_of.ensures, ← c.changed-session.ensures) at told in
-    record {
-      value = answer;
-      token_value = numbers a.s t _ answer;
-    }
+    let e = (rw c.is_busy.ensures at c.in_ok-allow_token.ensures) ∙ sym (gate-passed _ _ _ (token_gate c.args.s) c.in_ok-gate.ensures) in
+    let value : Answered c.args.s c.args.table.now (Ok c.changed.result) =
+    rw (← token-passed c.args.s c.args.table.now e, ← c.in_ok-look.ensures, c.changed.ensures, c.granted.ensures) in
+    record { value = value; token_value = token-says c.args.s c.args.table.now (Ok c.changed.result) value }

@@ -11,6 +11,6 @@ pub returns : goal.returns
 unfolding page_of
 returns c = λ s e q.
     ap (λ (v : ℕ). record { word = v; mark = 0 })
-    (c.record_word-word.ensures ∙ ap₂ (λ (n m : ℕ). record_word
+    (c.from-word.ensures ∙ ap₂ (λ (n m : ℕ). record_word
     (record { state = n; dirty = false; cached = false; spare10 = 0; stamp = 0; migrated = m; spare48 = 0 })) q
-    (ap (λ (r : Record). r.migrated) c.record_of-p.ensures.value))
+    (ap (λ (r : Record). r.migrated) c.from-p.ensures.0))

@@ -11,5 +11,5 @@ returns c = rw (
   ← c.state_of-n.ensures.result_value,
   ← c.is_landing.ensures,
   ← c.is_writable.ensures,
-  ← ap (λ (x : Record). x.cached) c.record_of-p.ensures.value,
+  ← ap (λ (x : Record). x.cached) c.from-p.ensures.0,
 )

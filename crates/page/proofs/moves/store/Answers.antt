@@ -18,8 +18,8 @@ returns c = let w = c.args.w in
     (rw (
       ← c.state_of.ensures.result_value,
       ← c.is_writable-writable.ensures,
-      ← ap (λ (r : Record). r.cached) c.record_of-p.ensures.value,
-      ← ap (λ (r : Record). r.dirty) c.record_of-p.ensures.value,
+      ← ap (λ (r : Record). r.cached) c.from-p.ensures.0,
+      ← ap (λ (r : Record). r.dirty) c.from-p.ensures.0,
     )
     (c.set_cached-word.ensures ∙ ap (λ (r : Record). with_cached r true) c.set_dirty-seen.ensures))
     (sym (lowered-fits q (read_held w e).stamp (read_held w e).migrated))

@@ -26,6 +26,6 @@ returns c = let w = c.args.w in
     (c.kept_stamp-stamp.ensures
     ∙ ap₂ (λ (b : Bool) (n : ℕ). cond b n 0)
     (c.is_stamped.ensures ∙ ap (λ (z : State). is_in z stamped_states) (ap state_of q ∙ state-number s))
-    (ap (λ (r : Record). r.stamp) c.record_of-p.ensures.value))))
+    (ap (λ (r : Record). r.stamp) c.from-p.ensures.0))))
     (ap (λ (r : Record). with_stamp r stamp)
     (sym (lowered-fits (record { state = s; dirty = (page_of w).dirty; cached = (page_of w).cached; stamp = 0; migrated = 0; mark = 0 }) (lit< tt) (lit< tt))))

@@ -11,5 +11,5 @@ returns c = rw (
   ← c.state_of-n.ensures.result_value,
   ← c.is_sent.ensures,
   ← c.is_listed.ensures,
-  ← ap (λ (x : Record). x.dirty) c.record_of-p.ensures.value,
+  ← ap (λ (x : Record). x.dirty) c.from-p.ensures.0,
 )

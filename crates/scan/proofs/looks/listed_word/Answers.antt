@@ -8,4 +8,4 @@ returns c = rw (
   ← c.state_of-n.ensures.result_value,
   ← c.hint_of-hint.ensures,
   ← c.is_pending-pending.ensures,
-) c.entry_word.ensures
+) c.from.ensures

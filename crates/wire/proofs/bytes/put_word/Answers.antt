@@ -1,12 +1,8 @@
--- The second half is stored where the first one ends.
-use mathlib.Core.Path.{◌≡◌}
-use Prim.Native.Nat.{suc, ◌+◌}
+-- The eight bytes are copied into their place.
 use native.Mathlib.Omega.{arith}
-use Rattle.wire.specs.Bytes.{put_word}
+use mathlib.Core.Path.{◌∙◌}
+use Rattle.wire.proofs.BytesLaws.{eight_copied}
 use Rattle.wire.proofs.bytes.put_word.Goals as goal
 
 pub returns : goal.returns
-unfolding put_word
-returns c = let at = c.args.at in
-    let four : at + 4 ≡ suc (suc (suc (suc at))) = omega arith in
-    rw (c.put_half-2.ensures, c.put_half.ensures, four)
+returns c = eight_copied c.args.b.now c.copy_from_slice.new.self c.args.at _ c.args.x (omega arith) c.requires (c.copy_from_slice.ensures.after ∙ c.to_le_bytes.ensures)

@@ -1,8 +1,7 @@
--- A word is its two halves, and a half is below 2^32.
-use borrow.Author.Rules.{rules}
-use Rattle.wire.specs.Bytes.{word_at}
+-- The eight bytes from the place on, lowest first.
+use mathlib.Core.Path.{◌∙◌}
+use Rattle.wire.proofs.BytesLaws.{le_read}
 use Rattle.wire.proofs.bytes.word_at.Goals as goal
 
 pub returns : goal.returns
-unfolding word_at
-returns c = search rules
+returns c = c.from_le_bytes.ensures ∙ le_read c.args.b.now c.args.at

@@ -1,8 +1,7 @@
 -- After i rounds the flag says whether one of the first i streams is interrupted.
-use borrow.Author.Rules.{rules}
 use native.Mathlib.Omega.{arith}
 use native.Mathlib.Numerals.{add-one}
-use mathlib.Core.Path.{◌≡◌, refl, ap, ◌∙◌}
+use mathlib.Core.Path.{◌≡◌, ap, ◌∙◌}
 use Rattle.session.specs.Session.{stream_places}
 use Rattle.session.specs.Formed.{some_below, interrupted, busy}
 use Rattle.wire.specs.Bytes.{words_of}
@@ -10,17 +9,12 @@ use Rattle.wire.specs.Sessions.{session_of}
 use Rattle.wire.proofs.FormedInPlace.{flag-tells}
 use Rattle.wire.proofs.sessions.is_busy.Goals as goal
 
-pub loop-i-init : goal.loop-i-init
-loop-i-init c = (search rules, refl)
-
 pub loop-i-preserved : goal.loop-i-preserved
 loop-i-preserved c = let at-loop = c.loop-i in
-    let w = words_of c.args.b.now in (
-      omega arith,
-      rw (add-one at-loop.i, at-loop.invariant.1, c.number-flag.ensures, c.stream_place.ensures, flag-tells w at-loop.i (omega arith)),
-    )
+    let w = words_of c.args.b.now in
+    rw (add-one at-loop.i, at-loop.invariant, c.number.ensures, c.stream_place.ensures, flag-tells w at-loop.i (omega arith))
 
 pub returns : goal.returns
 unfolding busy
 returns c = let end : c.loop-i.i ≡ stream_places = omega arith in
-    c.loop-i.invariant.1 ∙ ap (some_below (interrupted (session_of (words_of c.args.b.now)))) end
+    c.loop-i.invariant ∙ ap (some_below (interrupted (session_of (words_of c.args.b.now)))) end

@@ -1,7 +1,9 @@
--- A number of the session, in its place.
-use Rattle.wire.specs.Sessions.{session_of}
+-- The phase of the first word; Done for a number that is no phase's.
+use mathlib.Core.Path.{ap, ◌∙◌}
+use Rattle.wire.specs.Sessions.{phase_of, session_of}
+use Rattle.wire.proofs.SessionLaws.{phase-read}
 use Rattle.wire.proofs.sessions.phase_at.Goals as goal
 
 pub returns : goal.returns
 unfolding session_of
-returns c = rw (c.phase_of.ensures, c.number.ensures)
+returns c = c.unwrap_or.ensures ∙ phase-read c.number.result c.try_from.result c.try_from.ensures ∙ ap phase_of c.number.ensures

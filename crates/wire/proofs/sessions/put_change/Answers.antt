@@ -9,7 +9,7 @@ returns-in-Nothing c = rw c.in-Nothing.is
 
 pub returns-in-ToPhase : goal.returns-in-ToPhase
 unfolding written_by
-returns-in-ToPhase c = rw (c.in-ToPhase.is, ← c.number_of.ensures) c.put_number.ensures
+returns-in-ToPhase c = rw (c.in-ToPhase.is, ← c.from.ensures) c.put_number.ensures
 
 pub returns-in-ToEpoch : goal.returns-in-ToEpoch
 unfolding written_by
@@ -32,7 +32,7 @@ returns-in-Begin c = rw (
   c.no_check.ensures,
   c.put_number-in-Begin-2.ensures,
   c.put_number-in-Begin.ensures,
-  c.number_of-in-Begin.ensures,
+  c.from-in-Begin.ensures,
 )
 
 pub returns-then-stream : goal.returns-then-stream

@@ -9,8 +9,8 @@ returns c = rw (
   c.put_number-3.ensures,
   c.put_number-2.ensures,
   c.put_number.ensures,
-  c.bit_of-failed.ensures,
-  c.bit_of-complete.ensures,
+  c.from-2.ensures,
+  c.from.ensures,
   put_then _ (_ ∷ []) (_ ∷ []) 5 6 refl,
   put_then _ (_ ∷ _ ∷ []) (_ ∷ []) 5 7 refl,
 )

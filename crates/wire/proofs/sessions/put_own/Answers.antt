@@ -9,6 +9,6 @@ returns c = rw (
   c.put_number-3.ensures,
   c.put_number-2.ensures,
   c.put_number.ensures,
-  c.number_of.ensures,
+  c.from.ensures,
 )
     (put_five _ 0 _ _ _ _ _)

@@ -1,36 +1,30 @@
--- After i rounds none of the first i streams is other than it may be.
-use borrow.Author.Rules.{rules}
-use native.Mathlib.Omega.{arith}
-use native.Mathlib.Numerals.{add-one}
-use mathlib.Core.Path.{◌≡◌, refl, sym, ap, ◌∙◌}
-use mathlib.Core.Bool.{not}
+-- Every stream is as it may be where none of them is otherwise.
+use mathlib.Core.Path.{◌≡◌, refl, ◌∙◌}
+use mathlib.Core.Bool.{Bool, true, false, not, ◌&&◌, ◌||◌}
+use Prim.Native.Nat.{ℕ, ◌+◌}
+use lib.Dec.{ltb}
+use Rattle.std.proofs.Common.{rules, tests}
+use Rattle.std.proofs.lemmas.Iterator.{YieldsList-from_range}
+use Rattle.std.proofs.lemmas.Iterator.Search.{all_from_yields_List}
 use Rattle.session.specs.Session.{stream_places}
 use Rattle.wire.specs.Bytes.{words_of}
-use Rattle.wire.specs.Sessions.{streams_formed}
-use Rattle.wire.proofs.FormedInPlace.{wrong_in, some-there}
+use Rattle.wire.specs.Sessions.{stream_place, five_at, stream_formed, streams_formed}
 use Rattle.wire.proofs.streams.are_streams.Goals as goal
 
-pub loop-i-init : goal.loop-i-init
-loop-i-init c = (search rules, refl)
-
-pub returns-then-not-good : goal.returns-then-not-good
-unfolding streams_formed
-returns-then-not-good c = let at-loop = c.loop-i in
-    let args = c.args in
-    let wrong = wrong_in args.moves args.created (words_of args.b.now) in
-    let looked : wrong at-loop.i ≡ not c.is_stream-good.result =
-    rw (c.is_stream-good.ensures, c.five_at-x.ensures, c.stream_place.ensures) in
-    sym (ap not (some-there wrong stream_places at-loop.i (omega arith) (looked ∙ ap not c.if-not-good.true)))
-
-pub loop-i-preserved : goal.loop-i-preserved
-loop-i-preserved c = let at-loop = c.loop-i in
-    let args = c.args in
-    let wrong = wrong_in args.moves args.created (words_of args.b.now) in
-    let looked : wrong at-loop.i ≡ not c.is_stream-good.result =
-    rw (c.is_stream-good.ensures, c.five_at-x.ensures, c.stream_place.ensures) in
-    (omega arith, rw (add-one at-loop.i, at-loop.invariant.1) (looked ∙ ap not c.if-not-good.false))
+eight : (a b c d e f g h : Bool) →
+    (a && (b && (c && (d && (e && (f && (g && (h && true)))))))) ≡ not (not a || not b || not c || not d || not e || not f || not g || not h)
+eight true true true true true true true true = refl
+eight true true true true true true true false = refl
+eight true true true true true true false h = refl
+eight true true true true true false g h = refl
+eight true true true true false f g h = refl
+eight true true true false e f g h = refl
+eight true true false d e f g h = refl
+eight true false c d e f g h = refl
+eight false b c d e f g h = refl
 
 pub returns : goal.returns
 unfolding streams_formed
-returns c = let end : c.loop-i.i ≡ stream_places = omega arith in
-    sym (ap not (rw end at c.loop-i.invariant.1))
+returns c = let good : ℕ → Bool = λ i. stream_formed (ltb (i + 1) c.args.created && c.args.moves) (five_at (words_of c.args.b.now) (stream_place i)) in
+    all_from_yields_List good _ _ c.all.result c.all.ensures.ran (YieldsList-from_range 0 stream_places stream_places refl refl) (λ x b q k. search (rules, tests))
+    ∙ eight (good 0) (good 1) (good 2) (good 3) (good 4) (good 5) (good 6) (good 7)

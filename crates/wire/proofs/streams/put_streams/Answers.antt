@@ -1,6 +1,5 @@
 -- After i rounds the words of the first i streams are in their places.
-use borrow.Author.Rules.{rules}
-use mathlib.Core.Path.{◌≡◌, refl, sym, ap, ◌∙◌}
+use mathlib.Core.Path.{◌≡◌, sym, ap, ◌∙◌}
 use mathlib.Core.List.{List, ◌++◌}
 use Prim.Native.Nat.{ℕ, ◌+◌}
 use native.Mathlib.Omega.{arith}
@@ -26,16 +25,13 @@ next b₀ b s i e =
     ∙ ap (λ (k : ℕ). streams_from s k 0) (sym (add-one i)))
 
 pub loop-i-init : goal.loop-i-init
-loop-i-init c = (search rules, sym (put-none _ streams_place), refl)
+loop-i-init c = sym (put-none _ streams_place)
 
 pub loop-i-preserved : goal.loop-i-preserved
 loop-i-preserved c = let at-loop = c.loop-i in
-    let s = c.args.s in (
-      omega arith,
-      rw (c.put_work.ensures, c.work_of-work.ensures) (next _ at-loop.b s at-loop.i at-loop.invariant.1),
-      c.put_work.auto.b ∙ at-loop.invariant.2,
-    )
+    let s = c.args.s in
+    rw (c.put_work.ensures, c.work_of.ensures) (next _ at-loop.b s at-loop.i at-loop.invariant)
 
 pub returns : goal.returns
 returns c = let end : c.loop-i.i ≡ stream_places = omega arith in
-    rw (c.loop-i.invariant.1, end)
+    rw (c.loop-i.invariant, end)

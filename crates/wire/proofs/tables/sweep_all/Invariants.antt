@@ -1,6 +1,4 @@
 use mathlib.Core.Path.{◌≡◌}
-use Prim.Native.Nat.{◌≤◌, ◌-◌}
-use lib.ListN.{length}
 use Rattle.page.specs.Page.{on_words}
 use Rattle.page.specs.Sweeps.{swept_by}
 use Rattle.table.proofs.Laws.{sweep_first}
@@ -8,7 +6,4 @@ use Rattle.wire.specs.Bytes.{words_of, Bytes}
 use Rattle.wire.proofs.tables.sweep_all.Given as goal
 
 abbrev pub invariant-loop-i : goal.invariant-loop-i
-invariant-loop-i l = (l.i ≤ l.n) × (words_of l.b ≡ sweep_first (on_words (swept_by l.k)) l.i (words_of l.initial.b)) × (length l.b ≡ length l.initial.b) × Bytes l.b
-
-abbrev pub decreases-loop-i : goal.decreases-loop-i
-decreases-loop-i l = l.n - l.i
+invariant-loop-i l = (words_of l.b ≡ sweep_first (on_words (swept_by l.k)) l.i (words_of l.initial.b)) × Bytes l.b

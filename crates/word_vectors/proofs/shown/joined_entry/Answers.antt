@@ -5,4 +5,4 @@ use Rattle.words.proofs.EntryLaws.{word-entry}
 use Rattle.word_vectors.proofs.shown.joined_entry.Goals as goal
 
 pub returns : goal.returns
-returns c = c.entry_word.ensures ∙ ap entry_word c.entry_of.ensures.value ∙ word-entry c.args.w c.ranges.w.fits
+returns c = c.from-2.ensures ∙ ap entry_word c.from.ensures.0 ∙ word-entry c.args.w c.ranges.w.fits

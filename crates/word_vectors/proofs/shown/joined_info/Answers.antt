@@ -5,4 +5,4 @@ use Rattle.words.proofs.InfoLaws.{word-info}
 use Rattle.word_vectors.proofs.shown.joined_info.Goals as goal
 
 pub returns : goal.returns
-returns c = c.info_word.ensures ∙ ap info_word c.info_of.ensures.value ∙ word-info c.args.w c.ranges.w.fits
+returns c = c.from-2.ensures ∙ ap info_word c.from.ensures.0 ∙ word-info c.args.w c.ranges.w.fits

@@ -5,4 +5,4 @@ use Rattle.records.proofs.RecordLaws.{word-record}
 use Rattle.word_vectors.proofs.shown.joined_record.Goals as goal
 
 pub returns : goal.returns
-returns c = c.record_word.ensures ∙ ap record_word c.record_of.ensures.value ∙ word-record c.args.w c.ranges.w.fits
+returns c = c.from-2.ensures ∙ ap record_word c.from.ensures.0 ∙ word-record c.args.w c.ranges.w.fits

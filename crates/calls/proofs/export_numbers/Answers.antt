@@ -1,6 +1,0 @@
--- The definition, written out.
-use mathlib.Core.Path.{refl}
-use Rattle.calls.proofs.export_numbers.Goals as goal
-
-pub returns : goal.returns
-returns c = refl

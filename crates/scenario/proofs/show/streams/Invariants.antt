@@ -1,9 +1,0 @@
--- The loop passes each of the eight streams once.
-use Rattle.std.proofs.Common.{◌-◌, ◌≤◌}
-use Rattle.scenario.proofs.show.streams.Given as goal
-
-abbrev pub invariant-loop-i : goal.invariant-loop-i
-invariant-loop-i g l = l.i ≤ 8
-
-abbrev pub decreases-loop-i : goal.decreases-loop-i
-decreases-loop-i g l = 8 - l.i

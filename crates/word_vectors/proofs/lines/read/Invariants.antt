@@ -1,9 +1,0 @@
--- The loop passes each byte once: its index stays within the slice.
-use Rattle.std.proofs.Common.{◌-◌, ◌≤◌, length}
-use Rattle.word_vectors.proofs.lines.read.Given as goal
-
-abbrev pub invariant-loop-i : goal.invariant-loop-i
-invariant-loop-i g l = l.i ≤ length l.s
-
-abbrev pub decreases-loop-i : goal.decreases-loop-i
-decreases-loop-i g l = length l.s - l.i
