@@ -59,7 +59,8 @@ pub enum Call {
     },
 }
 
-// A call's answer in numbers. Those that a call does not give are 0, and so are all but the code of a refusal and the page of 53 and 54.
+// A call's answer in numbers, codes too: `effect_of` and the theorems over it are about these, and C gets them. Those that a call does not give are 0, and so are
+// all but the code of a refusal and the page of 53 and 54.
 #[derive(Clone, Copy)]
 pub struct Returned {
     pub code: u64,
@@ -77,7 +78,7 @@ pub struct Returned {
     pub session: Session,
 }
 
-// A code and a session, and no other number.
+// A code and a session, and no other number: what `Returned` is for.
 fn code_alone(code: u64, session: Session) -> Returned
     ensures { result ≡ without_numbers (record { code = code; session = session }) }
 {
@@ -115,9 +116,10 @@ fn token_numbers(s: Session, outcome: Result<Session, Obstacle>) -> Returned
 {
     match outcome {
         Ok(session) => code_alone(0, session),
-        Err(o) => Returned {
-            page: o.page.unwrap_or(0),
-            ..refused(o.refusal, s)
+        Err(Obstacle::Refused(refusal)) => refused(refusal, s),
+        Err(Obstacle::InTheWay { refusal, page }) => Returned {
+            page,
+            ..refused(refusal, s)
         },
     }
 }

@@ -19,6 +19,8 @@ use page::sweeps::Sweep;
 use refusals::{Refusal, code_of};
 use scan::Scanned;
 
+// ---- C's structs, in which a code is a number. The functions have C's parameters in C's order.
+
 // What the start token answers; the page is that in the way of 53 and 54.
 #[repr(C)]
 #[derive(Clone, Copy)]
@@ -166,9 +168,13 @@ fn token_answer(outcome: Result<(), Obstacle>) -> ChirpTokenAnswer
 {
     match outcome {
         Ok(()) => ChirpTokenAnswer { code: 0, page: 0 },
-        Err(o) => ChirpTokenAnswer {
-            code: u64::from(o.refusal),
-            page: o.page.unwrap_or(0) as u64,
+        Err(Obstacle::Refused(refusal)) => ChirpTokenAnswer {
+            code: u64::from(refusal),
+            page: 0,
+        },
+        Err(Obstacle::InTheWay { refusal, page }) => ChirpTokenAnswer {
+            code: u64::from(refusal),
+            page: page as u64,
         },
     }
 }

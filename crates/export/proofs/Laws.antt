@@ -1,4 +1,5 @@
 -- What is known past an export's tests: the list is one, its entries that are left are ordered, and no count passes the next index.
+use Rattle.std.specs.Prelude.{Option, Some, None}
 use mathlib.Core.Path.{◌≡◌, refl}
 use mathlib.Core.Bool.{Bool, true, false, cond, not, ◌&&◌, true≢false}
 use mathlib.Core.List.{List, []}
@@ -13,8 +14,7 @@ use Rattle.refusals.proofs.Laws.{either, and_right, not-false, number-pos}
 use Rattle.session.specs.Session.{among, moving, resting, stream_places, work_of}
 use Rattle.session.specs.Formed.{usable, last_entry, gated, behind}
 use Rattle.session.specs.declared.Session.{Session}
-use Rattle.session.specs.declared.streams.Work.{Work}
-use Rattle.session.specs.declared.streams.Work.TheVariants.{AtRest, Interrupted}
+use Rattle.session.specs.declared.streams.Interruption.{Interruption}
 use Rattle.session.proofs.Laws.{gate-first, gate-refused, gate-passed, gate-open}
 use Rattle.session.proofs.FormedLaws.{WorkFormed, formed-means}
 use Rattle.words.specs.Info.{info_of}
@@ -79,7 +79,7 @@ finished-ended s stream x at = go (is_over x at.next)
     go true = refl
     go false = refl
 
-pub record Ready (entries room : ℕ) (run : Work) (x : Info) : Type 0 where
+pub record Ready (entries room : ℕ) (run : Option Interruption) (x : Info) : Type 0 where
   pub within : x.last < entries
   pub same : room ≡ entries
   pub short : x.last ≤ last_entry
@@ -100,10 +100,10 @@ export-ready s len entries room stream resume x e =
     let begun = go (work_of s stream) (rw here (f.streams stream low)) p.1.1.1.1.1.1.0 p.1.1.1.1.1.1.1.0 in
     record { within = list.within; same = eqb-true _ _ (not-false (eqb room entries) p.1.0); short = list.short; ordered = begun.0; counts = begun.1 }
   where
-    go : (r : Work) → WorkFormed (among moving s.phase) s.fixed.created stream r → no_resumption resume r x ≡ false → no_new_call resume r ≡ false →
+    go : (r : Option Interruption) → WorkFormed (among moving s.phase) s.fixed.created stream r → no_resumption resume r x ≡ false → no_new_call resume r ≡ false →
         ((begun_by r).next ≤ x.last) × Counts (begun_by r)
-    go AtRest w a b = (omega arith, record { errors = omega arith; filled = omega arith })
-    go (Interrupted next last errors filled) w a b =
-        let y : x.last ≡ last = eqb-true _ _ (and_right (eqb x.first next) (eqb x.last last)
-        (resumed resume (eqb x.first next && eqb x.last last) a b)) in
+    go None w a b = (omega arith, record { errors = omega arith; filled = omega arith })
+    go (Some i) w a b =
+        let y : x.last ≡ i.last = eqb-true _ _ (and_right (eqb x.first i.next) (eqb x.last i.last)
+        (resumed resume (eqb x.first i.next && eqb x.last i.last) a b)) in
         (omega (arith, w.ordered, y), record { errors = w.few-errors; filled = w.few-filled })

@@ -1,5 +1,5 @@
 -- Export of a list.
-use Rattle.std.specs.Prelude.{Bool, false, cond, not, ◌&&◌, List, [], ◌∷◌, ◌++◌, ℕ, ◌+◌, eqb, leb, length, Result, Ok, Err}
+use Rattle.std.specs.Prelude.{Bool, false, cond, not, ◌&&◌, List, [], ◌∷◌, ◌++◌, ℕ, ◌+◌, eqb, leb, length, Result, Ok, Err, Option, Some, None}
 use Rattle.words.specs.Codes as codes
 use Rattle.words.specs.Info.{info_of}
 use Rattle.words.specs.declared.infos.Info.{Info}
@@ -8,8 +8,7 @@ use Rattle.refusals.specs.declared.Refusal.{Refusal}
 use Rattle.session.specs.Session.{moving, work_of, with_work}
 use Rattle.session.specs.Formed.{gated, usable_of, work_resting}
 use Rattle.session.specs.declared.Session.{Session}
-use Rattle.session.specs.declared.streams.Work.{Work}
-use Rattle.session.specs.declared.streams.Work.TheVariants.{AtRest, Interrupted}
+use Rattle.session.specs.declared.streams.Interruption.{Interruption}
 use Rattle.entry.specs.Entry.{ground_of}
 use Rattle.entry.specs.declared.Ground.{Ground}
 use Rattle.lists.specs.Kinds.{Step, taken_by}
@@ -26,7 +25,7 @@ pub record Ended : Type 0 where
   pub info : ℕ
   pub errors : ℕ
   pub buffers : ℕ
-  pub work : Work
+  pub work : Option Interruption
 
 abbrev pub end_of : ended.Ended → Ended
 end_of e = record { code = ending_number e.ending; info = e.info; errors = e.errors; buffers = e.buffers; work = e.work }
@@ -51,21 +50,21 @@ abbrev pub other_buffer : ℕ → ℕ → Bool
 other_buffer entries room = not (eqb room entries)
 
 -- interrupted, with this FIRST and LAST
-abbrev pub resumable : Work → Info → Bool
-resumable AtRest x = false
-resumable (Interrupted next last errors filled) x = eqb x.first next && eqb x.last last
+abbrev pub resumable : Option Interruption → Info → Bool
+resumable None x = false
+resumable (Some i) x = eqb x.first i.next && eqb x.last i.last
 
-abbrev pub no_resumption : Bool → Work → Info → Bool
+abbrev pub no_resumption : Bool → Option Interruption → Info → Bool
 no_resumption resume work x = resume && not (resumable work x)
 
-abbrev pub no_new_call : Bool → Work → Bool
+abbrev pub no_new_call : Bool → Option Interruption → Bool
 no_new_call resume work = not resume && not (work_resting work)
 
 abbrev pub not_from_0 : Bool → Info → Bool
 not_from_0 resume x = not resume && not (eqb x.first 0)
 
 -- 42, of which it cannot be seen which test comes first; 44; then 42
-abbrev pub export_asks : ℕ → Work → ℕ → ℕ → ℕ → Bool → Info → List Test
+abbrev pub export_asks : ℕ → Option Interruption → ℕ → ℕ → ℕ → Bool → Info → List Test
 export_asks created work entries room stream resume x =
     not (usable_of created stream) gives codes.operand_invalid
     ∷ other_buffer entries room gives codes.operand_invalid
@@ -88,9 +87,9 @@ abbrev pub export_step : Ground → Step
 export_step g = taken_by Export g
 
 -- a new call begins at entry 0 with no counts; a resumed one goes on
-abbrev pub begun_by : Work → Progress
-begun_by AtRest = record { next = 0; errors = 0; filled = 0 }
-begun_by (Interrupted next last errors filled) = record { next = next; errors = errors; filled = filled }
+abbrev pub begun_by : Option Interruption → Progress
+begun_by None = record { next = 0; errors = 0; filled = 0 }
+begun_by (Some i) = record { next = i.next; errors = i.errors; filled = i.filled }
 
 -- 1 for MACs, 2 if LAST ≥ 256
 unfoldable pub mac_pages : ℕ → ℕ
@@ -99,7 +98,7 @@ mac_pages last = cond (leb 256 last) 2 1
 -- at the end the errors of the whole operation, 1 buffer for the list, those for MACs and the data pages; the stream at rest
 abbrev pub done_end : Info → Progress → Ended
 done_end x at =
-    record { code = codes.done; info = info_back x at.next; errors = at.errors; buffers = 1 + mac_pages x.last + at.filled; work = AtRest }
+    record { code = codes.done; info = info_back x at.next; errors = at.errors; buffers = 1 + mac_pages x.last + at.filled; work = None }
 
 -- before it both counts 0; the stream interrupted
 abbrev pub interrupted_end : Info → Progress → Ended
@@ -109,7 +108,7 @@ interrupted_end x at =
       info = info_back x at.next;
       errors = 0;
       buffers = 0;
-      work = Interrupted at.next x.last at.errors at.filled;
+      work = Some (record { next = at.next; last = x.last; errors = at.errors; filled = at.filled });
     }
 
 unfoldable pub ended_by : Info → Progress → Ended

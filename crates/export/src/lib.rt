@@ -11,8 +11,9 @@ use lists::runs::Progress;
 use lists::{Kind, runs};
 use refusals::{Ending, Refusal};
 use session::changes::Change;
-use session::streams::Work;
+use session::streams::Interruption;
 use session::{Session, When, changes, streams};
+use table::InWords;
 use words::infos::Info;
 
 // What an export answers that is not refused.
@@ -26,19 +27,16 @@ pub struct ExportAnswer {
 }
 
 // The stream was interrupted where the info word goes on.
-fn is_resumable(work: Work, x: Info) -> bool
+fn is_resumable(work: Option<Interruption>, x: Info) -> bool
     ensures { result ≡ resumable work x }
 {
-    match work {
-        Work::AtRest => false,
-        Work::Interrupted { next, last, .. } => (x.first == next) & (x.last == last),
-    }
+    work.is_some_and(|i| (x.first == i.next) & (x.last == i.last))
 }
 
 // The first of an export's own tests that holds; `work` is what the stream is doing.
 pub fn allow_export(
     created: u64,
-    work: Work,
+    work: Option<Interruption>,
     entries: usize,
     room: usize,
     stream: u64,
@@ -48,7 +46,7 @@ pub fn allow_export(
     ensures { code_of result ≡ first_of (export_asks created work entries room stream resume x) }
 {
     let no_resumption = resume & !is_resumable(work, x);
-    let no_new_call = !resume & !streams::is_resting(work);
+    let no_new_call = !resume & work.is_some();
     let not_from_0 = !resume & (x.first != 0);
     if !streams::is_usable(created, stream) {
         return Err(Refusal::OperandInvalid);
@@ -70,24 +68,19 @@ pub fn allow_export(
 }
 
 // Where a call on the stream goes on.
-pub fn begin(work: Work) -> Progress
+pub fn begin(work: Option<Interruption>) -> Progress
     ensures { result ≡ begun_by work }
 {
     match work {
-        Work::AtRest => Progress {
+        None => Progress {
             next: 0,
             errors: 0,
             filled: 0,
         },
-        Work::Interrupted {
-            next,
-            errors,
-            filled,
-            ..
-        } => Progress {
-            next,
-            errors, // of the whole operation, and not of its last call alone
-            filled,
+        Some(i) => Progress {
+            next: i.next,
+            errors: i.errors, // of the whole operation, and not of its last call alone
+            filled: i.filled,
         },
     }
 }
@@ -108,7 +101,7 @@ pub struct Ended {
     pub info: u64,
     pub errors: u64,
     pub buffers: u64,
-    pub work: Work,
+    pub work: Option<Interruption>,
 }
 
 pub fn end(x: Info, at: Progress) -> Ended
@@ -124,7 +117,7 @@ pub fn end(x: Info, at: Progress) -> Ended
             info,
             errors: at.errors,
             buffers: 1 + macs + at.filled,
-            work: Work::AtRest,
+            work: None,
         };
     }
     Ended {
@@ -132,12 +125,12 @@ pub fn end(x: Info, at: Progress) -> Ended
         info,
         errors: 0, // told at the end
         buffers: 0,
-        work: Work::Interrupted {
+        work: Some(Interruption {
             next: at.next,
             last,
             errors: at.errors,
             filled: at.filled,
-        },
+        }),
     }
 }
 
@@ -171,7 +164,16 @@ pub fn export(
     )?;
     let g = entry::ground_of(s);
     let from = begin(work);
-    let at = runs::run_entries(table, list, buffer, from, x.last, budget, Kind::Export, g);
+    let at = runs::run_entries::<InWords>(
+        table,
+        list,
+        buffer,
+        from,
+        x.last,
+        budget,
+        Kind::Export,
+        g,
+    );
     let ended = end(x, at);
     let after = ended.work;
     let session = changes::changed(

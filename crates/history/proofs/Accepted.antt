@@ -1,4 +1,5 @@
 -- What a call makes of the session when its code is 0: the tests that it has passed are what its new session needs (`Sessions`).
+use Rattle.std.specs.Prelude.{Some, None}
 use mathlib.Core.Path.{◌≡◌, refl, ap, ◌∙◌}
 use mathlib.Core.Bool.{Bool, true, not, false≢true}
 use mathlib.Core.List.{List, [], ◌∷◌}
@@ -18,7 +19,6 @@ use Rattle.session.specs.Session.{moving, stream_places, new_session, with_phase
 use Rattle.session.specs.Formed.{last_epoch, fewest_created, most_created, within, usable}
 use Rattle.session.specs.declared.Phase.TheVariants.{Blackout, Done}
 use Rattle.session.specs.declared.Session.{Session}
-use Rattle.session.specs.declared.streams.Work.TheVariants.{AtRest, Interrupted}
 use Rattle.session.proofs.Laws.{gate-open}
 use Rattle.session.proofs.FormedLaws.{Formed, formed-means}
 use Rattle.memory.specs.Memory.{new_code}
@@ -136,7 +136,7 @@ export-made s t l b stream resume info budget e =
     = run-bounds (export_step (ground_of s)) x.last budget (standing (begun_by (work_of s stream)) t l b)
     (record { next = omega (arith, r.ordered); counts = r.counts }) in
     either (λ (a : ExportAnswer). Formed a.session (length t)) (is_over x at.next)
-    (λ q. run-formed f stream low AtRest tt)
+    (λ q. run-formed f stream low None tt)
     (λ q.
-    run-formed f stream low (Interrupted at.next x.last at.errors at.filled)
+    run-formed f stream low (Some (record { next = at.next; last = x.last; errors = at.errors; filled = at.filled }))
     (record { moving = o.comes; usable = able; ordered = ltb-false _ _ q; short = r.short; few-errors = m.counts.errors; few-filled = m.counts.filled }))

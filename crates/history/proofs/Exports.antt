@@ -1,5 +1,6 @@
 -- An export: along its run the log grows by exactly the entries that succeed, as the words and the buffer that come back tell them; and how far it came is
 -- told by its answer.
+use Rattle.std.specs.Prelude.{Option, Some, None}
 use mathlib.Core.Path.{◌≡◌, refl, sym, ap, ◌∙◌}
 use mathlib.Core.Bool.{Bool, true, false, ◌&&◌, true≢false}
 use mathlib.Core.List.{List, ◌++◌, append_assoc, append-nil}
@@ -18,9 +19,8 @@ use Rattle.session.specs.Session.{among, moving, work_of, with_work, with_stream
 use Rattle.session.specs.Formed.{last_entry}
 use Rattle.session.specs.declared.Phase.TheVariants.{Idle}
 use Rattle.session.specs.declared.Session.{Session}
-use Rattle.session.specs.declared.streams.Work.{Work}
+use Rattle.session.specs.declared.streams.Interruption.{Interruption}
 use Rattle.session.specs.declared.streams.Stream.{Stream}
-use Rattle.session.specs.declared.streams.Work.TheVariants.{AtRest, Interrupted}
 use Rattle.session.proofs.Laws.{gate-open}
 use Rattle.session.proofs.FormedLaws.{formed-means, epoch-fits}
 use Rattle.entry.specs.declared.Ground.{Ground}
@@ -101,12 +101,12 @@ begins s len entries room stream resume x e =
     let p = (gate-open s len moving (export_tests s entries room stream resume x) refl e).passed in
     go resume (work_of s stream) p.1.1.1.1.1.1.0 p.1.1.1.1.1.1.1.0 p.1.1.1.1.1.1.1.1.0
   where
-    go : (r : Bool) (z : Work) → no_resumption r z x ≡ false → no_new_call r z ≡ false → not_from_0 r x ≡ false → (begun_by z).next ≡ x.first
-    go true AtRest a b c = absurd (true≢false a)
-    go false AtRest a b c = sym (eqb-true x.first 0 (not-false (eqb x.first 0) c))
-    go true (Interrupted next last errors filled) a b c =
-        sym (eqb-true x.first next (and_left (eqb x.first next) (eqb x.last last) (not-false (eqb x.first next && eqb x.last last) a)))
-    go false (Interrupted next last errors filled) a b c = absurd (true≢false b)
+    go : (r : Bool) (z : Option Interruption) → no_resumption r z x ≡ false → no_new_call r z ≡ false → not_from_0 r x ≡ false → (begun_by z).next ≡ x.first
+    go true None a b c = absurd (true≢false a)
+    go false None a b c = sym (eqb-true x.first 0 (not-false (eqb x.first 0) c))
+    go true (Some i) a b c =
+        sym (eqb-true x.first i.next (and_left (eqb x.first i.next) (eqb x.last i.last) (not-false (eqb x.first i.next && eqb x.last i.last) a)))
+    go false (Some i) a b c = absurd (true≢false b)
 
 -- before the end the info word comes back with the next index as FIRST
 pub info-back : (info next : ℕ) → next ≤ (info_of info).last → next < 2 ^ 9 → info_of (info_back (info_of info) next) ≡ with_first (info_of info) next
@@ -144,7 +144,7 @@ none_came info code s e =
 
 -- ---- the whole call
 
-run-streams : (P : Session → Type 0) (s : Session) (stream : ℕ) (run : Work) → ((l : List Stream) → P (with_streams s l)) → P (with_work s stream run)
+run-streams : (P : Session → Type 0) (s : Session) (stream : ℕ) (run : Option Interruption) → ((l : List Stream) → P (with_streams s l)) → P (with_work s stream run)
 unfolding with_work
 run-streams P s stream run p = either P (ltb stream stream_places) (λ e. p _) (λ e. p s.streams)
 

@@ -1,5 +1,6 @@
 -- Sessions stay well-formed, and keep their eight streams. A call that is refused gives back the session and the table that came; one that is accepted makes a
 -- session that is well-formed again (`Accepted`), and leaves a table of the same length.
+use Rattle.std.specs.Prelude.{Option, Some, None}
 use mathlib.Core.Path.{◌≡◌, refl, sym, ap, ◌∙◌}
 use mathlib.Core.Bool.{true, true≢false}
 use mathlib.Core.List.{List, [], ◌∷◌}
@@ -21,8 +22,7 @@ use Rattle.session.specs.Formed.{formed}
 use Rattle.session.specs.Outcome.{Outcome, answered}
 use Rattle.session.specs.declared.Phase.TheVariants as phase
 use Rattle.session.specs.declared.Session.{Session}
-use Rattle.session.specs.declared.streams.Work.{Work}
-use Rattle.session.specs.declared.streams.Work.TheVariants.{AtRest, Interrupted}
+use Rattle.session.specs.declared.streams.Interruption.{Interruption}
 use Rattle.session.proofs.Laws.{answered-either}
 use Rattle.session.proofs.FormedLaws.{Formed, formed-means, means-formed}
 use Rattle.memory.specs.Memory.{new_code, new_out, on_page}
@@ -139,7 +139,7 @@ module _ (s : Session) (t : List ℕ) (n : length s.streams ≡ stream_places) w
   unfolding token_out
   token-streams = either (λ (s' : Session). length s'.streams ≡ stream_places) (eqb (token_code s t) 0) (λ e. n) (λ e. n)
 
-  run-streams : (i : ℕ) (r : Work) → length (with_work s i r).streams ≡ stream_places
+  run-streams : (i : ℕ) (r : Option Interruption) → length (with_work s i r).streams ≡ stream_places
   unfolding with_work
   run-streams i r = either (λ (s' : Session). length s'.streams ≡ stream_places) (ltb i stream_places) (λ e. length-set s.streams i (record { work = r })
       ∙ n) (λ e. n)
@@ -147,8 +147,8 @@ module _ (s : Session) (t : List ℕ) (n : length s.streams ≡ stream_places) w
   export-streams : (stream : ℕ) (x : Info) (at : Progress) → length (finished_by s stream x at).session.streams ≡ stream_places
   unfolding finished_by
   export-streams stream x at =
-      either (λ (a : ExportAnswer). length a.session.streams ≡ stream_places) (is_over x at.next) (λ e. run-streams stream AtRest)
-      (λ e. run-streams stream (Interrupted at.next x.last at.errors at.filled))
+      either (λ (a : ExportAnswer). length a.session.streams ≡ stream_places) (is_over x at.next) (λ e. run-streams stream None)
+      (λ e. run-streams stream (Some (record { next = at.next; last = x.last; errors = at.errors; filled = at.filled })))
 
   call-streams : (l b : List ℕ) (c : Call) → length (effect_of c s t l b).returned.session.streams ≡ stream_places
   unfolding new_out on_all on_session checked_by

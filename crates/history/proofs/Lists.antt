@@ -1,5 +1,6 @@
 -- The lists one after the other, in any order or cut anew: each takes the pages that it names from what waits, and where no list is left nothing waits and the
 -- token is granted.
+use Rattle.std.specs.Prelude.{Option, None}
 use mathlib.Core.Path.{◌≡◌, refl}
 use mathlib.Core.Bool.{true, false}
 use mathlib.Core.List.Memᴰ
@@ -18,8 +19,7 @@ use Rattle.table.specs.Table.{page_at}
 use Rattle.session.specs.Session.{stream_places, work_of}
 use Rattle.session.specs.Formed.{busy}
 use Rattle.session.specs.declared.Session.{Session}
-use Rattle.session.specs.declared.streams.Work.{Work}
-use Rattle.session.specs.declared.streams.Work.TheVariants.{AtRest}
+use Rattle.session.specs.declared.streams.Interruption.{Interruption}
 use Rattle.session.proofs.FormedLaws.{busy-means}
 use Rattle.migration.proofs.Grant.{resting-is}
 use Rattle.bundle.proofs.Replay.{perm-mem}
@@ -57,9 +57,9 @@ left-anew w n ls k = left_other w n ls (cut_anew ls) (anew-short ls) (anew-liste
 
 -- ---- one list
 
-run-rests : (s : Session) → busy s ≡ false → (i : ℕ) → work_of s i ≡ AtRest
+run-rests : (s : Session) → busy s ≡ false → (i : ℕ) → work_of s i ≡ None
 unfolding work_of
-run-rests s e i = either (λ (r : Work). r ≡ AtRest) (ltb i stream_places) (λ q. resting-is _ (busy-means s e i (ltb-true _ _ q))) (λ q. refl)
+run-rests s e i = either (λ (r : Option Interruption). r ≡ None) (ltb i stream_places) (λ q. resting-is _ (busy-means s e i (ltb-true _ _ q))) (λ q. refl)
 
 module _ (u w : World) (x : Sending) (rest : List (List ℕ)) (whole : Whole u x) (k : Left w u.session.fixed.created (x.list ∷ rest)) where
   short : Short x.list

@@ -1,5 +1,6 @@
 -- One list exported to its end: each call is accepted and takes entries until its budget is used up; one that is interrupted is resumed where it was, since its
 -- stream, its info and its list come back with the next entry's place; and the call that comes behind the last entry leaves the stream at rest.
+use Rattle.std.specs.Prelude.{Option, Some, None}
 use mathlib.Core.Path.{◌≡◌, refl, sym, ap, ◌∙◌, subst}
 use mathlib.Core.Logic.{◌⊎◌, inl, inr, ⊎_elim}
 use mathlib.Core.Bool.{Bool, true, false, cond, not}
@@ -21,9 +22,8 @@ use Rattle.session.specs.Session.{among, moving, resting, stream_places, work_of
 use Rattle.session.specs.Formed.{formed, most_entries, work_resting}
 use Rattle.session.specs.declared.Phase.TheVariants.{Blackout}
 use Rattle.session.specs.declared.Session.{Session}
-use Rattle.session.specs.declared.streams.Work.{Work}
+use Rattle.session.specs.declared.streams.Interruption.{Interruption}
 use Rattle.session.specs.declared.streams.Stream.{Stream}
-use Rattle.session.specs.declared.streams.Work.TheVariants.{AtRest, Interrupted}
 use Rattle.session.proofs.Laws.{open-gate}
 use Rattle.session.proofs.FormedLaws.{formed-means, means-busy}
 use Rattle.lists.specs.Run.{Standing, standing}
@@ -43,9 +43,9 @@ use Rattle.history.proofs.Waiting.{Listed, Short, Left}
 use Rattle.history.proofs.Ahead.{Ahead, Waits, waits-map, none_ahead, Along, call_along}
 
 -- a new call finds its stream at rest and begins with entry 0; a resumed one finds it interrupted at its own FIRST and LAST
-abbrev Finds : Bool → ℕ → ℕ → Work → Type 0
-Finds resume next last AtRest = (resume ≡ false) × (next ≡ 0)
-Finds resume next last (Interrupted first end errors pages) = (resume ≡ true) × (first ≡ next) × (end ≡ last)
+abbrev Finds : Bool → ℕ → ℕ → Option Interruption → Type 0
+Finds resume next last None = (resume ≡ false) × (next ≡ 0)
+Finds resume next last (Some i) = (resume ≡ true) × (i.next ≡ next) × (i.last ≡ last)
 
 module _ (n stream entries : ℕ) (rest : List (List ℕ)) where
   -- before a call that goes on with entry `next`
@@ -80,10 +80,10 @@ module _ (n stream entries : ℕ) (rest : List (List ℕ)) where
 
       -- ---- the call is accepted
 
-      stands : (r : Work) → Finds resume next x.last r → (no_resumption resume r x ≡ false) × (no_new_call resume r ≡ false) × (not_from_0 resume x ≡ false)
-      stands AtRest e = (rw e.0, rw e.0, rw (e.0, k.first, e.1))
-      stands (Interrupted first end errors pages) e =
-          (rw (e.0, eq-eqb x.first first (k.first ∙ sym e.1), eq-eqb x.last end (sym e.2)), rw e.0, rw e.0)
+      stands : (r : Option Interruption) → Finds resume next x.last r → (no_resumption resume r x ≡ false) × (no_new_call resume r ≡ false) × (not_from_0 resume x ≡ false)
+      stands None e = (rw e.0, rw e.0, rw (e.0, k.first, e.1))
+      stands (Some i) e =
+          (rw (e.0, eq-eqb x.first i.next (k.first ∙ sym e.1), eq-eqb x.last i.last (sym e.2)), rw e.0, rw e.0)
 
       accepted : export_code s (length w.table) (length l) (length b) stream resume x ≡ 0
       unfolding export_code
@@ -138,27 +138,27 @@ module _ (n stream entries : ℕ) (rest : List (List ℕ)) where
           ⊎ ((o.answer.code ≡ codes.interrupted)
           × ((at : ℕ) × (next + budget ≤ at) × Going (left_by w g (export_effect o)) true o.answer.info o.list o.buffer at))
 
-      set-run : (r : Work) → with_work s stream r ≡ with_streams s (set s.streams stream (record { work = r }))
+      set-run : (r : Option Interruption) → with_work s stream r ≡ with_streams s (set s.streams stream (record { work = r }))
       unfolding with_work
       set-run r = rw (lt-ltb stream stream_places low)
 
-      run-here : (r : Work) → (get_or (with_work s stream r).streams stream resting).work ≡ r
+      run-here : (r : Option Interruption) → (get_or (with_work s stream r).streams stream resting).work ≡ r
       run-here r =
           rw (set-run r) (ap (λ (z : Stream). z.work) (get_or-set_same s.streams stream (record { work = r }) resting (omega (arith, low, k.streams))))
 
-      run-set : (r : Work) → work_of (with_work s stream r) stream ≡ r
+      run-set : (r : Option Interruption) → work_of (with_work s stream r) stream ≡ r
       unfolding work_of
       run-set r = rw (lt-ltb stream stream_places low) (run-here r)
 
-      run-others : (r : Work) (i : ℕ) → i < stream_places → (i ≡ stream → ⊥) → work_resting (get_or (with_work s stream r).streams i resting).work ≡ true
+      run-others : (r : Option Interruption) (i : ℕ) → i < stream_places → (i ≡ stream → ⊥) → work_resting (get_or (with_work s stream r).streams i resting).work ≡ true
       run-others r i h ne =
           rw (set-run r, get_or-set_other s.streams stream i (record { work = r }) resting ne) (k.others i h ne)
 
-      all_rest : (i : ℕ) → i < stream_places → work_resting (get_or (with_work s stream AtRest).streams i resting).work ≡ true
+      all_rest : (i : ℕ) → i < stream_places → work_resting (get_or (with_work s stream None).streams i resting).work ≡ true
       all_rest i h =
           elim (ℕ_discrete i stream) [
-            | yes e ↦ rw (e, run-here AtRest)
-            | no ne ↦ run-others AtRest i h ne
+            | yes e ↦ rw (e, run-here None)
+            | no ne ↦ run-others None i h ne
           ]
 
       ended : x.last < left.at.next → Kept (ran (done_by s stream x left.at)) → Came (ran (done_by s stream x left.at))
@@ -167,13 +167,13 @@ module _ (n stream entries : ℕ) (rest : List (List ℕ)) where
             refl,
             record {
               formed = kept.0;
-              phase = rw (set-run AtRest) k.phase;
-              rest = means-busy (with_work s stream AtRest) all_rest;
+              phase = rw (set-run None) k.phase;
+              rest = means-busy (with_work s stream None) all_rest;
               streams = kept.1;
-              complete = rw (set-run AtRest) k.complete;
-              created = rw (set-run AtRest) k.created;
+              complete = rw (set-run None) k.complete;
+              created = rw (set-run None) k.created;
               lists = lists;
-              pages = λ i h. rw (set-run AtRest) (waits-map s.epoch (page_at left.table i)
+              pages = λ i h. rw (set-run None) (waits-map s.epoch (page_at left.table i)
                   (none_ahead left.list left.at.next entries (Listed rest) i (omega (arith, q, k.last))) (along.waits i (rw along.table at h)));
             },
           )
@@ -183,7 +183,7 @@ module _ (n stream entries : ℕ) (rest : List (List ℕ)) where
 
       goes_on : left.at.next ≤ x.last → Kept (ran (interrupted_by s stream x left.at)) → Came (ran (interrupted_by s stream x left.at))
       goes_on q kept =
-          let r = Interrupted left.at.next x.last left.at.errors left.at.filled in
+          let r : Option Interruption = Some (record { next = left.at.next; last = x.last; errors = left.at.errors; filled = left.at.filled }) in
           inr (
             refl,
             (

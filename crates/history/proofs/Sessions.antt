@@ -1,5 +1,6 @@
 -- A session that a call makes of a well-formed one is well-formed for a table of the same length: pages and N stay, and its epochs, its check and its streams
 -- are shown apart, each as it was or as the call makes it.
+use Rattle.std.specs.Prelude.{Option, Some, None}
 use mathlib.Core.Path.{◌≡◌, refl, sym, ap, subst, ◌∙◌}
 use mathlib.Core.Bool.{Bool, true, false, not, true≢false, false≢true}
 use mathlib.Core.List.{List, [], ◌∷◌}
@@ -19,8 +20,7 @@ use Rattle.session.specs.declared.Check.{Check}
 use Rattle.session.specs.declared.Fixed.{Fixed}
 use Rattle.session.specs.declared.Session.{Session}
 use Rattle.session.specs.declared.streams.Stream.{Stream}
-use Rattle.session.specs.declared.streams.Work.{Work}
-use Rattle.session.specs.declared.streams.Work.TheVariants.{AtRest, Interrupted}
+use Rattle.session.specs.declared.streams.Interruption.{Interruption}
 use Rattle.session.proofs.FormedLaws.{every-hold, Within, WorkFormed, Streaming, Formed, busy-means}
 
 -- ---- the parts that calls change
@@ -126,9 +126,9 @@ pub reset-formed : {s : Session} {len : ℕ} → Formed s len → Formed (with_c
 reset-formed {s} f = check-formed f unchecked (unchecked-placed s.fixed.pages)
 
 -- in Done no stream is interrupted, since none was
-resting-formed : (created i : ℕ) (r : Work) → work_resting r ≡ true → WorkFormed false created i r
-resting-formed created i AtRest e = tt
-resting-formed created i (Interrupted next last errors filled) e = absurd (false≢true e)
+resting-formed : (created i : ℕ) (r : Option Interruption) → work_resting r ≡ true → WorkFormed false created i r
+resting-formed created i None e = tt
+resting-formed created i (Some x) e = absurd (false≢true e)
 
 pub token-formed : {s : Session} {len : ℕ} → Formed s len → among (Blackout ∷ []) s.phase ≡ true → busy s ≡ false → Formed (with_phase s Done) len
 token-formed {s} f e rest =
@@ -147,7 +147,7 @@ set-stream P (y ∷ l) zero (suc k) x new old = old
 set-stream P (y ∷ l) (suc i) zero x new old = old
 set-stream P (y ∷ l) (suc i) (suc k) x new old = set-stream P l i k x (λ e. new (ap suc e)) old
 
-pub run-formed : {s : Session} {len : ℕ} → Formed s len → (i : ℕ) → i < stream_places → (r : Work) →
+pub run-formed : {s : Session} {len : ℕ} → Formed s len → (i : ℕ) → i < stream_places → (r : Option Interruption) →
     WorkFormed (among moving s.phase) s.fixed.created i r → Formed (with_work s i r) len
 unfolding with_work
 run-formed {s} f i h r e =

@@ -2,33 +2,24 @@
 ghost use Rattle.std.specs.Prelude.{◌≡◌, true, length};
 ghost use Rattle.refusals.specs.Refusals.{code_of};
 ghost use Rattle.session.specs.Outcome.{verdict_of};
-ghost use Rattle.migration.specs.Migration.{stopped};
 ghost use Rattle.calls.specs.declared.Call.TheVariants.{New, OnAll};
-ghost use Rattle.wire.specs.Bytes.{words_of};
 ghost use Rattle.host.specs.Host.{Lent, lent, Left, host_of};
 ghost use Rattle.host.specs.Inside.{sound, SweepTold};
 
 use crate::reads;
-use page::queries::Sought;
 use page::sweeps::Sweep;
 use refusals::Refusal;
 use session::changes::Change;
 use wire::sessions::SESSION_BYTES;
+use wire::tables::InBytes;
 use wire::{sessions, tables};
-
-// Whether the table has what stops a call.
-fn is_stopped(table: &[u8], stop: Option<Sought>) -> bool
-    ensures { result ≡ stopped stop (words_of table.now) }
-{
-    stop.is_some_and(|kind| tables::has(table, kind))
-}
 
 // What the call comes to. Past 40.
 fn verdict_at(k: Sweep, session: &[u8; SESSION_BYTES], table: &[u8]) -> Result<Change, Refusal>
     ensures { sound session.now (length table.now) ≡ true → SweepTold k session.now table.now (verdict_of result) }
 {
     session::allow_phase(sessions::phase_at(session), migration::sweep_when(k))?;
-    let stops = is_stopped(table, migration::stops_at(k));
+    let stops = migration::is_stopped::<InBytes>(table, migration::stops_at(k));
     migration::sweep_verdict(
         k,
         sessions::clock_at(session),
@@ -61,7 +52,7 @@ pub fn new(session: &mut [u8], table: &mut [u8], created: u64) -> Result<(), Ref
     }
     memory::allow_new(table.len() / 8, created)?;
     let made = session::new_session(table.len() / 16, created);
-    tables::clear(table);
+    table.fill(0);
     sessions::put_session(session, made);
     Ok(())
 }

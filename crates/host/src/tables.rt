@@ -1,10 +1,7 @@
 // Calls that write no byte of the table: new epoch, reset and abort, which ask for its length alone, and the start token, which looks at its pages in place.
 ghost use Rattle.std.specs.Prelude.{◌≡◌, true, length};
 ghost use Rattle.refusals.specs.Refusals.{code_of};
-ghost use Rattle.page.specs.Page.{gives53, gives54};
-ghost use Rattle.table.specs.Table.{first_page};
-ghost use Rattle.migration.specs.Token.{token_of, token_found};
-ghost use Rattle.wire.specs.Bytes.{words_of};
+ghost use Rattle.migration.specs.Token.{token_of};
 ghost use Rattle.calls.specs.declared.Call.TheVariants.{OnSession, StartToken};
 ghost use Rattle.host.specs.Host.{Lent, lent, Left, token_numbers, host_of};
 ghost use Rattle.host.specs.Inside.{sound, TokenTold};
@@ -12,11 +9,11 @@ ghost use Rattle.host.specs.Inside.{sound, TokenTold};
 use crate::reads;
 use migration::token::Obstacle;
 use migration::{Alone, token};
-use page::queries::Sought;
 use refusals::Refusal;
 use session::When;
+use wire::sessions;
 use wire::sessions::SESSION_BYTES;
-use wire::{sessions, tables};
+use wire::tables::InBytes;
 
 pub fn on_session(k: Alone, session: &mut [u8], table: &[u8]) -> Result<(), Refusal>
     ensures value { code_of result ≡ (host_of (OnSession k) (lent session.old table.now)).answer.code }
@@ -37,18 +34,6 @@ pub fn on_session(k: Alone, session: &mut [u8], table: &[u8]) -> Result<(), Refu
 
 // ---- the start token
 
-// What the token is by its pages. None is looked for that gives 54 where one gives 53.
-fn look(table: &[u8]) -> Result<(), Obstacle>
-    ensures { token_of result ≡ token_found (first_page gives53 (words_of table.now)) (first_page gives54 (words_of table.now)) }
-{
-    let first53 = tables::find(table, Sought::Gives53);
-    let first54 = match first53 {
-        Some(_) => None,
-        None => tables::find(table, Sought::Gives54),
-    };
-    token::token_of(first53, first54)
-}
-
 // What the token is. Past 40.
 fn token_at(session: &[u8; SESSION_BYTES], table: &[u8]) -> Result<(), Obstacle>
     ensures { sound session.now (length table.now) ≡ true → TokenTold session.now table.now (token_of result) }
@@ -58,7 +43,7 @@ fn token_at(session: &[u8; SESSION_BYTES], table: &[u8]) -> Result<(), Obstacle>
         sessions::is_busy(session),
         sessions::check_at(session).complete,
     )?;
-    look(table)
+    token::look::<InBytes>(table)
 }
 
 pub fn start_token(session: &mut [u8], table: &[u8]) -> Result<(), Obstacle>

@@ -35,7 +35,7 @@ fn gate_at(
     )
 }
 
-// Past 40.
+// Past 40. The parameters are C's, in C's order, here and in `export`.
 fn export_sound(
     session: &mut [u8; SESSION_BYTES],
     table: &mut [u8],

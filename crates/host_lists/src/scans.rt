@@ -14,7 +14,7 @@ use session::changes::Change;
 use wire::sessions;
 use wire::sessions::SESSION_BYTES;
 
-// Past 40.
+// Past 40. The parameters are C's, here and in `dscan`.
 fn dscan_sound(
     session: &[u8; SESSION_BYTES],
     table: &mut [u8],

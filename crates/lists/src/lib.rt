@@ -17,7 +17,8 @@ use words::infos::Info;
 // The run over the entries.
 pub mod runs;
 
-// The calls that take a list: each has its own step for one entry, and they share all else.
+// The calls that take a list: each has its own step for one entry, and they share all else. Data and no closure: the definition `taken_by` names it, and what
+// holds of all calls is said over it.
 #[derive(Clone, Copy)]
 pub enum Kind {
     Export,

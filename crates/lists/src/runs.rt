@@ -1,5 +1,5 @@
 // The entries of a list in turn.
-ghost use Rattle.std.specs.Prelude.{◌≡◌, ◌+◌, ◌≤◌, ◌<◌, length, get_or, set};
+ghost use Rattle.std.specs.Prelude.{◌≡◌, ◌+◌, ◌≤◌, ◌<◌, length};
 ghost use Rattle.words.specs.Runs.{bit};
 ghost use Rattle.session.specs.Formed.{last_entry};
 ghost use Rattle.lists.specs.Kinds.{taken_by};
@@ -7,6 +7,7 @@ ghost use Rattle.lists.specs.Run.{standing, counted, stepped, list_run};
 
 use crate::Kind;
 use entry::{Ground, Taken};
+use table::Form;
 use words::entries::Entry;
 use words::statuses;
 use words::statuses::Failure;
@@ -45,78 +46,65 @@ pub fn count(at: Progress, got: Taken) -> Progress
     }
 }
 
-// An entry's word in the buffer; 0 where the buffer has none.
-fn held_at(buffer: &[u64], i: usize) -> u64
-    ensures { result ≡ get_or buffer.now i 0 }
-{
-    buffer.get(i).copied().unwrap_or(0)
-}
-
-// Where the buffer has no word nothing is written: a call without a buffer lends an empty one.
-fn hold(buffer: &mut [u64], i: usize, x: u64)
-    ensures { buffer.new ≡ set buffer.old i x }
-{
-    if i < buffer.len() {
-        buffer[i] = x;
-    }
-}
-
-// The next entry, with its page and its buffer's word.
-fn step(
-    table: &mut [u64],
-    list: &mut [u64],
-    buffer: &mut [u64],
+// The next entry, with its page and its buffer's word. A page that it leaves as it is is not written, nor a word where the buffer has none: a call without
+// a buffer lends an empty one.
+fn step<T: Form>(
+    table: &mut [T::Unit],
+    list: &mut [T::Unit],
+    buffer: &mut [T::Unit],
     at: Progress,
     kind: Kind,
     g: Ground,
 ) -> Progress
-    requires { (at.next < length list.old) × (at.next ≤ last_entry) × (at.errors ≤ at.next) × (at.filled ≤ at.next) }
-    ensures value { result ≡ (stepped (taken_by kind g) (standing at table.old list.old buffer.old)).at }
-    ensures table_after { table.new ≡ (stepped (taken_by kind g) (standing at table.old list.old buffer.old)).table }
-    ensures list_after { list.new ≡ (stepped (taken_by kind g) (standing at table.old list.old buffer.old)).list }
-    ensures buffer_after { buffer.new ≡ (stepped (taken_by kind g) (standing at table.old list.old buffer.old)).buffer }
+    requires { (at.next ≤ last_entry) × (at.errors ≤ at.next) × (at.filled ≤ at.next) }
+    ensures value { result ≡ (stepped (taken_by kind g) (standing at (T.words table.old) (T.words list.old) (T.words buffer.old))).at }
+    ensures table_after { T.words table.new ≡ (stepped (taken_by kind g) (standing at (T.words table.old) (T.words list.old) (T.words buffer.old))).table }
+    ensures list_after { T.words list.new ≡ (stepped (taken_by kind g) (standing at (T.words table.old) (T.words list.old) (T.words buffer.old))).list }
+    ensures buffer_after { T.words buffer.new ≡ (stepped (taken_by kind g) (standing at (T.words table.old) (T.words list.old) (T.words buffer.old))).buffer }
 {
     let i = at.next as usize;
-    let word = list[i];
-    let held = held_at(&buffer[..], i);
+    let word = T::word(list, i);
+    let held = T::word(buffer, i);
     let e = Entry::from(word);
     let k = e.gpa as usize;
-    let before = table::load(&table[..], k);
+    let before = T::load(table, k);
     let got = crate::take(kind, g, word, held, before);
     let after = got.words;
     let next = count(at, got);
-    table::store(table, k, after);
-    list[i] = got.word;
-    hold(buffer, i, got.buffer);
+    if after != before {
+        T::store(table, k, after);
+    }
+    T::put(list, i, got.word);
+    T::put(buffer, i, got.buffer);
     next
 }
 
 // Entries in turn up to the last one, while the budget lasts.
-pub fn run_entries(
-    table: &mut [u64],
-    list: &mut [u64],
-    buffer: &mut [u64],
+pub fn run_entries<T: Form>(
+    table: &mut [T::Unit],
+    list: &mut [T::Unit],
+    buffer: &mut [T::Unit],
     from: Progress,
     last: u64,
     budget: u64,
     kind: Kind,
     g: Ground,
 ) -> Progress
-    requires { (last < length list.old) × (last ≤ last_entry) × (from.next ≤ last + 1) × (from.errors ≤ from.next) × (from.filled ≤ from.next) }
-    ensures value { result ≡ (list_run (taken_by kind g) last budget (standing from table.old list.old buffer.old)).at }
-    ensures table_after { table.new ≡ (list_run (taken_by kind g) last budget
-        (standing from table.old list.old buffer.old)).table }
-    ensures list_after { list.new ≡ (list_run (taken_by kind g) last budget
-        (standing from table.old list.old buffer.old)).list }
-    ensures buffer_after { buffer.new ≡ (list_run (taken_by kind g) last budget
-        (standing from table.old list.old buffer.old)).buffer }
+    requires { (last < length (T.words list.old)) × (last ≤ last_entry) × (from.next ≤ last + 1) × (from.errors ≤ from.next) × (from.filled ≤ from.next) }
+    ensures value { result ≡ (list_run (taken_by kind g) last budget (standing from (T.words table.old) (T.words list.old) (T.words buffer.old))).at }
+    ensures table_after { T.words table.new ≡ (list_run (taken_by kind g) last budget
+        (standing from (T.words table.old) (T.words list.old) (T.words buffer.old))).table }
+    ensures list_after { T.words list.new ≡ (list_run (taken_by kind g) last budget
+        (standing from (T.words table.old) (T.words list.old) (T.words buffer.old))).list }
+    ensures buffer_after { T.words buffer.new ≡ (list_run (taken_by kind g) last budget
+        (standing from (T.words table.old) (T.words list.old) (T.words buffer.old))).buffer }
 {
     let mut at = from;
     for _ in 0..budget {
         if last < at.next {
             break;
         }
-        at = step(table, list, buffer, at, kind, g);
+        at = step::<T>(table, list, buffer, at, kind, g);
     }
     at
 }

@@ -34,7 +34,7 @@ pub fn new(s: Session, table: &mut [u64], created: u64) -> Result<Session, Refus
 {
     allow_new(table.len(), created)?;
     let session = session::new_session(table.len() / 2, created);
-    table::clear(table);
+    table.fill(0);
     Ok(session)
 }
 

@@ -1,4 +1,5 @@
 -- The token's code is 0 exactly where none of its tests holds; and a page that gives neither 53 nor 54 is ready, state by state.
+use Rattle.std.specs.Prelude.{Option, Some, None}
 use mathlib.Core.Path.{◌≡◌, refl, sym, ap, ◌∙◌}
 use mathlib.Core.Logic.{◌⊎◌, inl, inr, ⊎_elim}
 use mathlib.Core.Bool.{Bool, true, false, not, ◌&&◌, ◌||◌, true≢false, false≢true}
@@ -22,8 +23,7 @@ use Rattle.session.specs.Formed.{work_resting, formed, gate_tests, gated, busy}
 use Rattle.session.specs.declared.Phase.{Phase}
 use Rattle.session.specs.declared.Phase.TheVariants.{Idle, Live, Blackout, Done}
 use Rattle.session.specs.declared.Session.{Session}
-use Rattle.session.specs.declared.streams.Work.{Work}
-use Rattle.session.specs.declared.streams.Work.TheVariants.{AtRest, Interrupted}
+use Rattle.session.specs.declared.streams.Interruption.{Interruption}
 use Rattle.session.proofs.Laws.{gate-open, open-gate, gate-ended}
 use Rattle.session.proofs.FormedLaws.{busy-means, means-busy}
 use Rattle.migration.specs.Token.{TokenNumbers, token_says, token_tests, token_code, in_the_way, token_for, token_out}
@@ -79,9 +79,9 @@ paused-is Live e = absurd (false≢true e)
 paused-is Blackout e = refl
 paused-is Done e = absurd (false≢true e)
 
-pub resting-is : (r : Work) → work_resting r ≡ true → r ≡ AtRest
-resting-is AtRest e = refl
-resting-is (Interrupted next last errors filled) e = absurd (false≢true e)
+pub resting-is : (r : Option Interruption) → work_resting r ≡ true → r ≡ None
+resting-is None e = refl
+resting-is (Some x) e = absurd (false≢true e)
 
 module _ (s : Session) (t : List ℕ) where
   granted-only : (token_says (token_out s t).token).code ≡ codes.done → Grantable s t

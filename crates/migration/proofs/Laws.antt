@@ -6,7 +6,7 @@ use Prim.Native.Nat.{ℕ, ◌≤◌}
 use lib.Dec.{eqb, ltb}
 use lib.ListN.{length}
 use borrow.Author.Tests.{eqb-true, ltb-false}
-use Rattle.std.specs.Prelude.{Option, Some, None, unwrap_or, Result, Ok, Err}
+use Rattle.std.specs.Prelude.{Result, Ok, Err}
 use Rattle.words.specs.Codes as codes
 use Rattle.refusals.specs.Refusals.{Test, ◌gives◌, first_of, number_of}
 use Rattle.refusals.specs.declared.Refusal.{Refusal}
@@ -25,8 +25,9 @@ use Rattle.session.specs.declared.changes.Change.TheVariants.{Nothing}
 use Rattle.session.proofs.Laws.{Open, first_then, gate-first, gate-refused, behind-gate, gate-open, open-gate, verdict-answered, verdict-session, answered-either}
 use Rattle.migration.specs.Migration.{sweep_when, stops_at, stopped, sweep_tests, sweep_change, sweep_next, sweep_code, sweep_verdict, on_all}
 use Rattle.migration.specs.Migration.{alone_when, alone_tests, alone_change, alone_next, alone_code, alone_verdict, alone_answer, on_session}
-use Rattle.migration.specs.Token.{Granted, Refused, InTheWay, TokenNumbers, TokenAnswer, token_says, token_gate, token_code, in_the_way, token_for, token_out, token_told, token_change, refused_for, token_of, token_answer_of, token_found}
+use Rattle.migration.specs.Token.{Granted, Refused, InTheWay, TokenNumbers, TokenAnswer, token_says, token_gate, token_code, in_the_way, token_for, token_out, token_told, token_change, refused_by, token_of, token_answer_of, token_found}
 use Rattle.migration.specs.declared.token.Obstacle.{Obstacle}
+use Rattle.migration.specs.declared.token.Obstacle.TheVariants as obstacle
 use Rattle.migration.specs.declared.Alone.{Alone}
 use Rattle.migration.specs.declared.Alone.TheVariants.{NewEpoch, Reset, Abort}
 
@@ -210,9 +211,9 @@ unfolding token_told
 token-passed s t e = token-told s t 0 (page_count t) _ _ e refl (λ z. refl) (λ z h. refl)
 
 -- a refusal changes nothing
-pub refused-nothing : (code : ℕ) (page : Option ℕ) → token_change (refused_for code page) ≡ Nothing
-refused-nothing code None = refl
-refused-nothing code (Some page) = refl
+pub refused-nothing : (o : Obstacle) → token_change (refused_by o) ≡ Nothing
+refused-nothing (obstacle.Refused r) = refl
+refused-nothing (obstacle.InTheWay r page) = refl
 
 -- the numbers of the token that code gives as a `Result`
 pub token-says : (s : Session) (t : List ℕ) (r : Result Session Obstacle) → token_answer_of s r ≡ token_out s t →
@@ -220,11 +221,3 @@ pub token-says : (s : Session) (t : List ℕ) (r : Result Session Obstacle) → 
 unfolding token_out
 token-says s t (Ok s') e = ap (λ (a : TokenAnswer). token_says a.token) e ∙ token-numbers (token_code s t) t
 token-says s t (Err o) e = ap (λ (a : TokenAnswer). token_says a.token) e ∙ token-numbers (token_code s t) t
-
--- and of a refusal of it
-pub obstacle-says : (o : Obstacle) → token_says (refused_for (number_of o.refusal) o.page) ≡ record { code = number_of o.refusal; page = unwrap_or o.page 0 }
-obstacle-says o = go o.page
-  where
-    go : (p : Option ℕ) → token_says (refused_for (number_of o.refusal) p) ≡ record { code = number_of o.refusal; page = unwrap_or p 0 }
-    go None = refl
-    go (Some p) = refl

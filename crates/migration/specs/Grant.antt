@@ -1,5 +1,5 @@
 -- Demand 2 on the start token: when it is granted, and what a refusal for a page names.
-use Rattle.std.specs.Prelude.{◌≡◌, ◌⊎◌, true, false, List, ℕ, ◌<◌, length}
+use Rattle.std.specs.Prelude.{◌≡◌, ◌⊎◌, true, false, List, ℕ, ◌<◌, length, None}
 use Rattle.words.specs.Codes as codes
 use Rattle.states.specs.States.{Free, Exported, PendingExported}
 use Rattle.page.specs.Page.{Page, strange, gives53, gives54}
@@ -8,7 +8,6 @@ use Rattle.session.specs.Session.{stream_places, work_at}
 use Rattle.session.specs.Formed.{formed}
 use Rattle.session.specs.declared.Phase.TheVariants.{Blackout}
 use Rattle.session.specs.declared.Session.{Session}
-use Rattle.session.specs.declared.streams.Work.TheVariants.{AtRest}
 use Rattle.migration.specs.Token.{token_says, token_out}
 
 -- free, or exported and clean: not strange, and in state 0, or in 24 or 29 with Dirty clear
@@ -18,7 +17,7 @@ pub record Ready (p : Page) : Type 0 where
 
 pub record Grantable (s : Session) (t : List ℕ) : Type 0 where
   pub paused : s.phase ≡ Blackout
-  pub rest : (i : ℕ) → i < stream_places → work_at s i ≡ AtRest
+  pub rest : (i : ℕ) → i < stream_places → work_at s i ≡ None
   pub complete : s.check.complete ≡ true
   pub ready : (i : ℕ) → i < page_count t → Ready (page_at t i)
 

@@ -11,6 +11,7 @@ use Rattle.session.specs.declared.Session.{Session}
 use Rattle.session.specs.declared.changes.Change.{Change}
 use Rattle.session.specs.declared.changes.Change.TheVariants.{Nothing, ToPhase}
 use Rattle.migration.specs.declared.token.Obstacle.{Obstacle}
+use Rattle.migration.specs.declared.token.Obstacle.TheVariants as obstacle
 
 pub data Token : Type 0 where
   Granted : Token
@@ -22,19 +23,19 @@ pub record TokenAnswer : Type 0 where
   pub token : Token
   pub session : Session
 
--- a refusal, with the page that it names or none
-abbrev pub refused_for : ℕ → Option ℕ → Token
-refused_for code None = Refused code
-refused_for code (Some page) = InTheWay code page
+-- the refusal that stands for an obstacle
+abbrev pub refused_by : Obstacle → Token
+refused_by (obstacle.Refused r) = Refused (number_of r)
+refused_by (obstacle.InTheWay r page) = InTheWay (number_of r) page
 
 -- the token, and the answer, that code gives as a `Result`: a refusal brings back the session that came
 abbrev pub token_of : {T : Type 0} → Result T Obstacle → Token
 token_of (Ok x) = Granted
-token_of (Err o) = refused_for (number_of o.refusal) o.page
+token_of (Err o) = refused_by o
 
 abbrev pub token_answer_of : Session → Result Session Obstacle → TokenAnswer
 token_answer_of s (Ok s') = record { token = Granted; session = s' }
-token_answer_of s (Err o) = record { token = refused_for (number_of o.refusal) o.page; session = s }
+token_answer_of s (Err o) = record { token = refused_by o; session = s }
 
 pub record TokenNumbers : Type 0 where
   pub code : ℕ

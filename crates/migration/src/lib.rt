@@ -13,6 +13,7 @@ use page::sweeps::Sweep;
 use refusals::Refusal;
 use session::changes::Change;
 use session::{Phase, Session, When, changes};
+use table::{Form, InWords};
 
 pub mod token;
 
@@ -41,10 +42,10 @@ pub fn stops_at(k: Sweep) -> Option<Sought>
 }
 
 // Whether the table has what stops a call.
-fn is_stopped(table: &[u64], stop: Option<Sought>) -> bool
-    ensures { result ≡ stopped stop table.now }
+pub fn is_stopped<T: Form>(table: &[T::Unit], stop: Option<Sought>) -> bool
+    ensures { result ≡ stopped stop (T.words table.now) }
 {
-    stop.is_some_and(|kind| table::has(table, kind))
+    stop.is_some_and(|kind| table::has::<T>(table, kind))
 }
 
 // What a call that has passed its gate comes to: `stops` says whether a page stops it.
@@ -90,14 +91,15 @@ pub fn on_all(k: Sweep, s: Session, table: &mut [u64]) -> Result<Session, Refusa
     ensures table_after { table.new ≡ (on_all k s table.old).table }
 {
     session::gate(s, table.len(), sweep_when(k))?;
-    let stops = is_stopped(&table[..], stops_at(k));
+    let stops = is_stopped::<InWords>(&table[..], stops_at(k));
     let change = sweep_verdict(k, s.clock, session::is_busy(s), stops)?;
-    table::sweep_all(table, k);
+    table::sweep_all::<InWords>(table, k);
     Ok(changes::changed(s, change))
 }
 
 // ---- the calls on the session alone, which ask of the table its length
 
+// Data and no closure, as the calls of the other shapes (`alone_asks`, `alone_change`, `effect_of`).
 #[derive(Clone, Copy)]
 pub enum Alone {
     NewEpoch,

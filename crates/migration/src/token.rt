@@ -1,8 +1,9 @@
 // The start token, and what a driver learns where it is refused.
-ghost use Rattle.std.specs.Prelude.{◌≡◌, None};
+ghost use Rattle.std.specs.Prelude.{◌≡◌};
 ghost use Rattle.refusals.specs.Refusals.{first_of, code_of};
 ghost use Rattle.page.specs.Page.{gives53, gives54};
 ghost use Rattle.table.specs.Table.{first_page};
+ghost use Rattle.migration.specs.declared.token.Obstacle.TheVariants as obstacle;
 ghost use Rattle.migration.specs.Token.{Granted, token_says, token_of, token_answer_of};
 ghost use Rattle.migration.specs.Token.{token_asks, token_code, in_the_way, token_out, token_found, token_change};
 
@@ -10,23 +11,20 @@ use page::queries::Sought;
 use refusals::Refusal;
 use session::changes::Change;
 use session::{Phase, Session, When, changes};
+use table::{Form, InWords};
 
-// Why the token is refused.
+// Why the token is not granted: a plain refusal, or one that carries the lowest page that is in the way.
 #[derive(Clone, Copy, Debug, PartialEq, Eq)]
-pub struct Obstacle {
-    pub refusal: Refusal,
-    // The lowest page that is in the way, of 53 and 54.
-    pub page: Option<usize>,
+pub enum Obstacle {
+    Refused(Refusal),
+    InTheWay { refusal: Refusal, page: usize },
 }
 
 impl From<Refusal> for Obstacle {
-    ghost from_gives = { λ r o. o ≡ record { refusal = r; page = None } };
+    ghost from_gives = { λ r o. o ≡ obstacle.Refused r };
 
     fn from(refusal: Refusal) -> Obstacle {
-        Obstacle {
-            refusal,
-            page: None,
-        }
+        Obstacle::Refused(refusal)
     }
 }
 
@@ -48,13 +46,13 @@ pub fn token_of(first53: Option<usize>, first54: Option<usize>) -> Result<(), Ob
     ensures { token_of result ≡ token_found first53 first54 }
 {
     match (first53, first54) {
-        (Some(page), _) => Err(Obstacle {
+        (Some(page), _) => Err(Obstacle::InTheWay {
             refusal: Refusal::ExportedDirtyPagesRemain,
-            page: Some(page),
+            page,
         }),
-        (None, Some(page)) => Err(Obstacle {
+        (None, Some(page)) => Err(Obstacle::InTheWay {
             refusal: Refusal::UnexportedMemoryRemains,
-            page: Some(page),
+            page,
         }),
         (None, None) => Ok(()),
     }
@@ -68,13 +66,13 @@ pub fn granted() -> Change
 }
 
 // What the token is by its pages. None is looked for that gives 54 where one gives 53.
-fn look(table: &[u64]) -> Result<(), Obstacle>
-    ensures { token_of result ≡ token_found (first_page gives53 table.now) (first_page gives54 table.now) }
+pub fn look<T: Form>(table: &[T::Unit]) -> Result<(), Obstacle>
+    ensures { token_of result ≡ token_found (first_page gives53 (T.words table.now)) (first_page gives54 (T.words table.now)) }
 {
-    let first53 = table::find(table, Sought::Gives53);
+    let first53 = table::find::<T>(table, Sought::Gives53);
     let first54 = match first53 {
         Some(_) => None,
-        None => table::find(table, Sought::Gives54),
+        None => table::find::<T>(table, Sought::Gives54),
     };
     token_of(first53, first54)
 }
@@ -89,6 +87,6 @@ pub fn start_token(s: Session, table: &[u64]) -> Result<Session, Obstacle>
 {
     session::gate(s, table.len(), When::Blackout)?;
     allow_token(session::is_busy(s), s.check.complete)?;
-    look(table)?;
+    look::<InWords>(table)?;
     Ok(changes::changed(s, granted()))
 }

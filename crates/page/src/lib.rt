@@ -32,7 +32,7 @@ pub struct Clock {
     pub tlb: u64,
 }
 
-// An unlisted number, so that it names no state.
+// An unlisted number, so that it names no state. (No Option: the clause of `state_of`, by `number_read`, gives a strange record this number.)
 const STRANGE: u8 = 255;
 
 // The number of the page's state, which names none where a spare bit is set: so a strange record is in none of the states that are asked for.

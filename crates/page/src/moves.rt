@@ -10,7 +10,7 @@ use crate::{Clock, PageWords, queries};
 use records::Record;
 use refusals::Refusal;
 
-// A call on one page, with what it brings.
+// A call on one page, with what it brings. Data and no closure: definitions and theorems over all calls (`move_tests`, `moved_by`, `effect_of`) name it.
 #[derive(Clone, Copy)]
 pub enum Move {
     Write { mark: u64 },

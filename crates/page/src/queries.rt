@@ -55,7 +55,7 @@ fn gives_54(w: PageWords) -> bool
     states::is_unsent(n) | states::is_strange(n)
 }
 
-// What a call looks for in the whole table.
+// What a call looks for in the whole table. Data and no closure: definitions (`sought`, `stops_at`) name it.
 #[derive(Clone, Copy)]
 pub enum Sought {
     Blocked,

@@ -33,7 +33,7 @@ fn refresh(w: PageWords, to: u8) -> PageWords
     PageWords { word, mark: w.mark }
 }
 
-// A call on every page.
+// A call on every page. Data and no closure: definitions and theorems over all calls (`swept_by`, `effect_of`) name it.
 #[derive(Clone, Copy)]
 pub enum Sweep {
     Track,

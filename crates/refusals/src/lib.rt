@@ -53,7 +53,7 @@ impl From<Ending> for u64 {
     }
 }
 
-// The code of what came of a call's tests: 0 where none holds.
+// The code of what came of a call's tests: 0 where none holds. A number, for C.
 pub fn code_of(outcome: Result<(), Refusal>) -> u64
     ensures { result ≡ code_of outcome }
 {

@@ -1,4 +1,5 @@
 -- A host is paused exactly where its history is: phase and epoch are words 0 and 3 of the session, and the first word of each stream is its flag.
+use Rattle.std.specs.Prelude.{Option, Some, None}
 use mathlib.Core.Path.{◌≡◌, refl, sym, ap, ◌∙◌}
 use mathlib.Core.Bool.{true, false≢true}
 use mathlib.Core.List.{List}
@@ -11,8 +12,7 @@ use borrow.Author.Tests.{lt-ltb}
 use Rattle.session.specs.Session.{phase_number, stream_places, work_at, work_of}
 use Rattle.session.specs.Formed.{work_resting}
 use Rattle.session.specs.declared.Session.{Session}
-use Rattle.session.specs.declared.streams.Work.{Work}
-use Rattle.session.specs.declared.streams.Work.TheVariants.{AtRest, Interrupted}
+use Rattle.session.specs.declared.streams.Interruption.{Interruption}
 use Rattle.session.proofs.FormedLaws.{busy-means, means-busy}
 use Rattle.history.specs.History as history
 use Rattle.history.specs.Earning as earning
@@ -31,15 +31,15 @@ flag_at s i h =
     let work : work_of s i ≡ work_at s i = rw (lt-ltb i stream_places h) in
     sym (get_or-drop (stream_place i) (session_words s) 0 0 ∙ ap (λ (n : ℕ). get_or (session_words s) n 0) (add-zero (stream_place i)))
     ∙ ap (λ x. x.flag) (in-session s i h)
-    ∙ ap (λ (x : Work). (work_words x).flag) work
+    ∙ ap (λ (x : Option Interruption). (work_words x).flag) work
 
-flag-rests : (x : Work) → (work_words x).flag ≡ 0 → work_resting x ≡ true
-flag-rests AtRest e = refl
-flag-rests (Interrupted next last errors filled) e = absurd (omega (arith, e))
+flag-rests : (x : Option Interruption) → (work_words x).flag ≡ 0 → work_resting x ≡ true
+flag-rests None e = refl
+flag-rests (Some i) e = absurd (omega (arith, e))
 
-rests-flag : (x : Work) → work_resting x ≡ true → (work_words x).flag ≡ 0
-rests-flag AtRest e = refl
-rests-flag (Interrupted next last errors filled) e = absurd (false≢true e)
+rests-flag : (x : Option Interruption) → work_resting x ≡ true → (work_words x).flag ≡ 0
+rests-flag None e = refl
+rests-flag (Some i) e = absurd (false≢true e)
 
 module _ (h : Host) (w : history.World) (k : Tied h w) where
   session-words : words_of h.session ≡ session_words w.session

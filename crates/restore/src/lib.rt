@@ -10,6 +10,7 @@ use lists::runs::Progress;
 use lists::{Kind, runs};
 use refusals::{Ending, Refusal};
 use session::{Session, When};
+use table::InWords;
 use words::infos::Info;
 
 // What a RESTORE answers that is not refused.
@@ -80,7 +81,16 @@ pub fn restore(
     let from = begin(x);
     let mut none = [0u64; 0];
     let buffer: &mut [u64] = &mut none;
-    let at = runs::run_entries(table, list, buffer, from, x.last, budget, Kind::Restore, g);
+    let at = runs::run_entries::<InWords>(
+        table,
+        list,
+        buffer,
+        from,
+        x.last,
+        budget,
+        Kind::Restore,
+        g,
+    );
     let ended = end(x, at.next);
     Ok(ListAnswer {
         ending: ended.ending,

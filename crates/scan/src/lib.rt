@@ -2,10 +2,10 @@
 
 #![tactic(auto)]
 
-ghost use Rattle.std.specs.Prelude.{◌≡◌, ◌+◌, ◌*◌, ◌/◌, ◌≤◌, ◌<◌, length, set};
+ghost use Rattle.std.specs.Prelude.{◌≡◌, ◌+◌, ◌*◌, ◌≤◌, ◌<◌, length, set};
 ghost use Rattle.refusals.specs.Refusals.{first_of, ending_number, code_of};
 ghost use Rattle.page.specs.Page.{page_of, on_words};
-ghost use Rattle.table.specs.Table.{most_pages, put_at};
+ghost use Rattle.table.specs.Table.{most_pages, page_count, put_at};
 ghost use Rattle.scan.specs.Look.{listed_word, listed_page};
 ghost use Rattle.scan.specs.Scan.{stop_code, Stops, end_code, scanned_of, scan_run, range_run, written_of, answer_of, scan_answer_of, check_after};
 ghost use Rattle.scan.specs.Scan.{within_table, dscan_asks, dscan_out, dcheck_asks, dcheck_out};
@@ -14,6 +14,7 @@ use page::{Clock, PageWords, queries};
 use refusals::{Ending, Refusal};
 use session::changes::Change;
 use session::{Check, Session, When, changes, streams};
+use table::{Form, InWords};
 
 // What a scan makes of one page.
 pub mod looks;
@@ -84,28 +85,50 @@ pub fn end(checking: bool) -> Ending
 }
 
 // A page that is listed goes into the part, and its word into the list.
-fn visit(part: &mut [u64], list: &mut [u64], scan: Scan, i: usize, put: usize, w: PageWords)
-    requires { (scan.first + i < most_pages) × (put < length list.old) }
-    ensures part_after { part.new ≡ put_at part.old i (on_words (listed_page scan.clock) w) }
-    ensures list_after { list.new ≡ set list.old put (listed_word (page_of w).state (scan.first + i)) }
+fn visit<T: Form>(
+    part: &mut [T::Unit],
+    list: &mut [T::Unit],
+    scan: Scan,
+    i: usize,
+    put: usize,
+    w: PageWords,
+)
+    requires { scan.first + i < most_pages }
+    ensures part_after { T.words part.new ≡ put_at (T.words part.old) i (on_words (listed_page scan.clock) w) }
+    ensures list_after { T.words list.new ≡ set (T.words list.old) put (listed_word (page_of w).state (scan.first + i)) }
 {
-    table::store(part, i, looks::listed_words(w, scan.clock));
-    list[put] = looks::listed_word(w, scan.first + i);
+    T::store(part, i, looks::listed_words(w, scan.clock));
+    T::put(list, put, looks::listed_word(w, scan.first + i));
 }
 
-// The pages of a part of the table in turn.
-fn scan_part(part: &mut [u64], list: &mut [u64], scan: Scan) -> Scanned
-    requires { scan.first + length part.old / 2 ≤ most_pages }
-    ensures value { scanned_of result ≡ (scan_run (length part.old / 2) scan 0 0 part.old list.old).scanned }
-    ensures part_after { part.new ≡ (scan_run (length part.old / 2) scan 0 0 part.old list.old).part }
-    ensures list_after { list.new ≡ (scan_run (length part.old / 2) scan 0 0 part.old list.old).list }
+// The pages of a part of the table in turn. A page that the budget does not reach is not looked at: what a scan does not visit may not even be mapped. Most
+// pages are neither blocked nor listed, and are passed at once.
+pub fn scan_part<T: Form>(part: &mut [T::Unit], list: &mut [T::Unit], scan: Scan) -> Scanned
+    requires { scan.first + page_count (T.words part.old) ≤ most_pages }
+    ensures value { scanned_of result ≡ (scan_run (page_count (T.words part.old)) scan 0 0
+        (T.words part.old) (T.words list.old)).scanned }
+    ensures part_after { T.words part.new ≡ (scan_run (page_count (T.words part.old)) scan 0 0
+        (T.words part.old) (T.words list.old)).part }
+    ensures list_after { T.words list.new ≡ (scan_run (page_count (T.words part.old)) scan 0 0
+        (T.words part.old) (T.words list.old)).list }
 {
-    let n = part.len() / 2;
+    let n = T::pages(part);
     let mut put = 0;
     for i in 0..n {
-        let words = table::load(&part[..], i);
+        if i >= scan.budget {
+            return Scanned {
+                ending: Ending::Interrupted,
+                next: scan.first + i,
+                put,
+            };
+        }
+        let words = T::load(part, i);
+        let blocked = queries::is_blocked(words);
         let listed = looks::is_listed(words);
-        if let Some(ending) = stop(scan, queries::is_blocked(words), listed, i, put, list.len()) {
+        if !(blocked | listed) {
+            continue;
+        }
+        if let Some(ending) = stop(scan, blocked, listed, i, put, T::len(list)) {
             return Scanned {
                 ending,
                 next: scan.first + i,
@@ -113,7 +136,7 @@ fn scan_part(part: &mut [u64], list: &mut [u64], scan: Scan) -> Scanned
             };
         }
         if listed {
-            visit(part, list, scan, i, put, words);
+            visit::<T>(part, list, scan, i, put, words);
             put += 1;
         }
     }
@@ -133,7 +156,7 @@ fn scan_range(table: &mut [u64], list: &mut [u64], count: usize, scan: Scan) -> 
 {
     let from = 2 * scan.first;
     let to = from + 2 * count;
-    scan_part(&mut table[from..to], list, scan)
+    scan_part::<InWords>(&mut table[from..to], list, scan)
 }
 
 // ---- the answer
@@ -145,7 +168,7 @@ pub struct Written {
     pub last: u64,
 }
 
-// 0 and count−1; 511 and 0 where a scan ran and listed nothing.
+// 0 and count−1; 511 and 0, document 01's numbers, where a scan ran and listed nothing.
 pub fn written_of(put: usize) -> Written
     ensures { result ≡ written_of put }
 {

@@ -4,7 +4,7 @@ use migration::Alone;
 use page::moves::Move;
 use page::sweeps::Sweep;
 use session::Phase;
-use session::streams::Work;
+use session::streams::Interruption;
 
 // How many numbers an order has at most.
 pub(crate) const NUMBERS: usize = 5;
@@ -28,7 +28,7 @@ pub(crate) enum Setting {
     Place(usize),
     Complete(bool),
     Failed(bool),
-    Stream(u64, Work),
+    Stream(u64, Option<Interruption>),
 }
 
 #[derive(Clone, Copy)]
@@ -121,15 +121,15 @@ impl Order {
             "complete" => Order::Set(Setting::Complete(a != 0)),
             "failed" => Order::Set(Setting::Failed(a != 0)),
             "stream" => {
-                let work = Work::Interrupted {
+                let work = Interruption {
                     next: b,
                     last: c,
                     errors: d,
                     filled: e,
                 };
-                Order::Set(Setting::Stream(a, work))
+                Order::Set(Setting::Stream(a, Some(work)))
             }
-            "rest" => Order::Set(Setting::Stream(a, Work::AtRest)),
+            "rest" => Order::Set(Setting::Stream(a, None)),
             "lend" => lend(SpaceName::Table, a),
             "list" => lend(SpaceName::List, a),
             "buffer" => lend(SpaceName::Buffer, a),

@@ -1,7 +1,7 @@
 // What the program prints of a call.
 use calls::Returned;
 use session::Session;
-use session::streams::Work;
+use session::streams::Interruption;
 use std::io::{self, Write};
 
 // What a call answered.
@@ -14,15 +14,10 @@ fn answer(out: &mut impl Write, r: &Returned) -> io::Result<()> {
 }
 
 // What a stream is doing.
-fn stream(out: &mut impl Write, work: Work) -> io::Result<()> {
+fn stream(out: &mut impl Write, work: Option<Interruption>) -> io::Result<()> {
     match work {
-        Work::AtRest => write!(out, " -"),
-        Work::Interrupted {
-            next,
-            last,
-            errors,
-            filled,
-        } => write!(out, " {next}/{last}/{errors}/{filled}"),
+        None => write!(out, " -"),
+        Some(i) => write!(out, " {}/{}/{}/{}", i.next, i.last, i.errors, i.filled),
     }
 }
 

@@ -1,4 +1,5 @@
 -- What `formed` says, case by case and both ways: none of the malformed cases holds exactly where each of them fails.
+use Rattle.std.specs.Prelude.{Option, Some, None, is_some}
 use mathlib.Core.Path.{◌≡◌, refl, sym, ap, ◌∙◌}
 use mathlib.Core.Logic.{⊎_elim}
 use mathlib.Core.Bool.{Bool, true, false, not, ◌&&◌, ◌||◌, or-false, or_assoc, true≢false, false≢true}
@@ -16,8 +17,7 @@ use Rattle.session.specs.Formed.{interrupted, out_of_range, out_of_place, busy, 
 use Rattle.session.specs.declared.Phase.{Phase}
 use Rattle.session.specs.declared.Phase.TheVariants.{Idle, Live, Blackout, Done}
 use Rattle.session.specs.declared.Session.{Session}
-use Rattle.session.specs.declared.streams.Work.{Work}
-use Rattle.session.specs.declared.streams.Work.TheVariants.{AtRest, Interrupted}
+use Rattle.session.specs.declared.streams.Interruption.{Interruption}
 
 -- ---- tests joined by `&&`, from the left
 
@@ -104,6 +104,10 @@ not_so false f = refl
 
 -- ---- streams at rest
 
+pub some-runs : (r : Option Interruption) → is_some r ≡ not (work_resting r)
+some-runs None = refl
+some-runs (Some x) = refl
+
 pub busy-means : (s : Session) → busy s ≡ false → (i : ℕ) → i < stream_places → work_resting (work_at s i) ≡ true
 unfolding busy
 busy-means s e i h =
@@ -136,9 +140,9 @@ pub record Interrupts (moves : Bool) (created i next last errors filled : ℕ) :
   pub few-errors : errors ≤ next
   pub few-filled : filled ≤ next
 
-abbrev pub WorkFormed : Bool → ℕ → ℕ → Work → Type 0
-WorkFormed moves created i AtRest = Unit
-WorkFormed moves created i (Interrupted next last errors filled) = Interrupts moves created i next last errors filled
+abbrev pub WorkFormed : Bool → ℕ → ℕ → Option Interruption → Type 0
+WorkFormed moves created i None = Unit
+WorkFormed moves created i (Some x) = Interrupts moves created i x.next x.last x.errors x.filled
 
 -- of every stream of a session
 abbrev pub Streaming : Session → Type 0
@@ -199,16 +203,16 @@ formed-means s len e =
     }
   where
     run :
-        (i : ℕ) (r : Work) →
+        (i : ℕ) (r : Option Interruption) →
         (busy s ≡ false → work_resting r ≡ true) →
         not (work_in_range r) ≡ false →
         (not (work_resting r) && not (usable s i)) ≡ false →
         (busy s && not (among moving s.phase)) ≡ false →
         WorkFormed (among moving s.phase) s.fixed.created i r
-    run i AtRest rest range able moves = tt
-    run i (Interrupted next last errors filled) rest range able moves =
-        let h = every-hold (leb next last ∷ leb last last_entry ∷ leb errors next ∷ leb filled next ∷ [])
-        (not-false (work_in_range (Interrupted next last errors filled)) range) in
+    run i None rest range able moves = tt
+    run i (Some x) rest range able moves =
+        let h = every-hold (leb x.next x.last ∷ leb x.last last_entry ∷ leb x.errors x.next ∷ leb x.filled x.next ∷ [])
+        (not-false (work_in_range (Some x)) range) in
         let some = not-false (busy s) (not_so (not (busy s)) (λ q. false≢true (rest (not-true (busy s) q)))) in
         record {
           moving = not-false (among moving s.phase) (other (busy s) (not (among moving s.phase)) moves some);
@@ -253,18 +257,18 @@ means-formed s len f =
         (λ q. eq-eqb _ _ (f.idle (idle-is s.phase q)))
         (λ q. means-within _ _ _ (f.begun (λ p. true≢false (sym (ap (among (Idle ∷ [])) p) ∙ q))))
 
-    in-range : (i : ℕ) (r : Work) → WorkFormed (among moving s.phase) s.fixed.created i r → not (work_in_range r) ≡ false
-    in-range i AtRest w = refl
-    in-range i (Interrupted next last errors filled) w =
+    in-range : (i : ℕ) (r : Option Interruption) → WorkFormed (among moving s.phase) s.fixed.created i r → not (work_in_range r) ≡ false
+    in-range i None w = refl
+    in-range i (Some x) w =
         rw (le-leb _ _ w.ordered, le-leb _ _ w.short, le-leb _ _ w.few-errors, le-leb _ _ w.few-filled)
 
-    able : (i : ℕ) (r : Work) → WorkFormed (among moving s.phase) s.fixed.created i r → (not (work_resting r) && not (usable s i)) ≡ false
-    able i AtRest w = refl
-    able i (Interrupted next last errors filled) w = ap not (lt-ltb _ _ w.usable)
+    able : (i : ℕ) (r : Option Interruption) → WorkFormed (among moving s.phase) s.fixed.created i r → (not (work_resting r) && not (usable s i)) ≡ false
+    able i None w = refl
+    able i (Some x) w = ap not (lt-ltb _ _ w.usable)
 
-    rests : (i : ℕ) (r : Work) → WorkFormed false s.fixed.created i r → work_resting r ≡ true
-    rests i AtRest w = refl
-    rests i (Interrupted next last errors filled) w = absurd (false≢true w.moving)
+    rests : (i : ℕ) (r : Option Interruption) → WorkFormed false s.fixed.created i r → work_resting r ≡ true
+    rests i None w = refl
+    rests i (Some x) w = absurd (false≢true w.moving)
 
     moves : (m : Bool) → ((i : ℕ) → i < stream_places → WorkFormed m s.fixed.created i (work_at s i)) → (busy s && not m) ≡ false
     moves true w = not-both (busy s) false (λ q. refl)

@@ -1,5 +1,5 @@
 -- When a session is malformed, case by case as document 01 lists them, and the gate that every call but New passes first.
-use Rattle.std.specs.Prelude.{Bool, true, false, cond, not, ◌&&◌, ◌||◌, List, [], ◌∷◌, ℕ, zero, suc, ◌+◌, ◌/◌, eqb, ltb, leb}
+use Rattle.std.specs.Prelude.{Bool, true, false, cond, not, ◌&&◌, ◌||◌, List, [], ◌∷◌, ℕ, zero, suc, ◌+◌, ◌/◌, eqb, ltb, leb, Option, Some, None}
 use Rattle.words.specs.Codes as codes
 use Rattle.refusals.specs.Refusals.{Test, ◌gives◌, first_of}
 use Rattle.table.specs.Table.{legal, most_pages}
@@ -7,8 +7,7 @@ use Rattle.session.specs.Session.{among, moving, stream_places, work_at}
 use Rattle.session.specs.declared.Phase.{Phase}
 use Rattle.session.specs.declared.Phase.TheVariants.{Idle}
 use Rattle.session.specs.declared.Session.{Session}
-use Rattle.session.specs.declared.streams.Work.{Work}
-use Rattle.session.specs.declared.streams.Work.TheVariants.{AtRest, Interrupted}
+use Rattle.session.specs.declared.streams.Interruption.{Interruption}
 
 abbrev pub last_epoch : ℕ
 last_epoch = 65535
@@ -36,14 +35,14 @@ epoch_in phase epoch = cond (among (Idle ∷ []) phase) (eqb epoch 0) (within 1 
 
 -- ---- streams
 
-abbrev pub work_resting : Work → Bool
-work_resting AtRest = true
-work_resting (Interrupted next last errors filled) = false
+abbrev pub work_resting : Option Interruption → Bool
+work_resting None = true
+work_resting (Some x) = false
 
 -- next ≤ last ≤ 511, both counts ≤ next
-abbrev pub work_in_range : Work → Bool
-work_in_range AtRest = true
-work_in_range (Interrupted next last errors filled) = leb next last && leb last last_entry && leb errors next && leb filled next
+abbrev pub work_in_range : Option Interruption → Bool
+work_in_range None = true
+work_in_range (Some x) = leb x.next x.last && leb x.last last_entry && leb x.errors x.next && leb x.filled x.next
 
 -- index below N−1 is usable
 abbrev pub usable_of : ℕ → ℕ → Bool

@@ -1,5 +1,5 @@
 -- The session: what New makes, and sessions made from others.
-use Rattle.std.specs.Prelude.{◌≡◌, Bool, false, cond, ◌||◌, List, [], ◌∷◌, ℕ, ◌+◌, ◌<◌, eqb, ltb, get_or, set, replicate, Result, MatchResult}
+use Rattle.std.specs.Prelude.{◌≡◌, Bool, false, cond, ◌||◌, List, [], ◌∷◌, ℕ, ◌+◌, ◌<◌, eqb, ltb, get_or, set, replicate, Result, MatchResult, Option, None}
 use Rattle.page.specs.declared.Clock.{Clock}
 use Rattle.session.specs.declared.Phase.{Phase}
 use Rattle.session.specs.declared.Phase.TheVariants.{Idle, Live, Blackout, Done}
@@ -12,8 +12,7 @@ use Rattle.session.specs.declared.phases.UnknownPhase.{UnknownPhase}
 use Rattle.session.specs.declared.changes.Change.{Change}
 use Rattle.session.specs.declared.changes.Change.TheVariants.{Nothing, ToPhase, ToEpoch, ToClock, ToCheck, Begin, ToWork}
 use Rattle.session.specs.declared.streams.Stream.{Stream}
-use Rattle.session.specs.declared.streams.Work.{Work}
-use Rattle.session.specs.declared.streams.Work.TheVariants.{AtRest}
+use Rattle.session.specs.declared.streams.Interruption.{Interruption}
 
 -- ---- phases
 
@@ -56,7 +55,7 @@ abbrev pub unchecked : Check
 unchecked = record { place = 0; complete = false; failed = false }
 
 abbrev pub resting : Stream
-resting = record { work = AtRest }
+resting = record { work = None }
 
 -- the session has eight places for streams, whatever N is
 abbrev pub stream_places : ℕ
@@ -98,14 +97,14 @@ with_check s check = remade s s.phase s.epoch s.clock check s.streams
 abbrev pub with_streams : Session → List Stream → Session
 with_streams s streams = remade s s.phase s.epoch s.clock s.check streams
 
-abbrev pub work_at : Session → ℕ → Work
+abbrev pub work_at : Session → ℕ → Option Interruption
 work_at s i = (get_or s.streams i resting).work
 
 -- what a stream is doing; at rest where the session has no place for it
-unfoldable pub work_of : Session → ℕ → Work
-work_of s i = cond (ltb i stream_places) (work_at s i) AtRest
+unfoldable pub work_of : Session → ℕ → Option Interruption
+work_of s i = cond (ltb i stream_places) (work_at s i) None
 
-unfoldable pub with_work : Session → ℕ → Work → Session
+unfoldable pub with_work : Session → ℕ → Option Interruption → Session
 with_work s i work = cond (ltb i stream_places) (with_streams s (set s.streams i (record { work = work }))) s
 
 -- what a call changes in its session

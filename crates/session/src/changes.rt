@@ -2,20 +2,35 @@
 ghost use Rattle.std.specs.Prelude.{◌≡◌};
 ghost use Rattle.session.specs.Session.{unchecked, changed_by};
 
-use crate::streams::Work;
+use crate::streams::Interruption;
 use crate::{Check, Phase, Session, streams};
 use page::Clock;
 
 #[derive(Clone, Copy)]
 pub enum Change {
+    // For the definition `verdict_for`: what is refused changes nothing.
     Nothing,
-    ToPhase { phase: Phase },
-    ToEpoch { epoch: u64 },
-    ToClock { clock: Clock },
-    ToCheck { check: Check },
+    ToPhase {
+        phase: Phase,
+    },
+    ToEpoch {
+        epoch: u64,
+    },
+    ToClock {
+        clock: Clock,
+    },
+    ToCheck {
+        check: Check,
+    },
     // Where a migration begins, and where one that is given up ends: with no check and with streams at rest.
-    Begin { phase: Phase, epoch: u64 },
-    ToWork { stream: u64, work: Work },
+    Begin {
+        phase: Phase,
+        epoch: u64,
+    },
+    ToWork {
+        stream: u64,
+        work: Option<Interruption>,
+    },
 }
 
 // A check that has not begun.

@@ -142,7 +142,7 @@ pub fn is_formed(s: Session, len: usize) -> bool
         | (found.any & !comes.moving))
 }
 
-// The phases in which a call comes.
+// The phases in which a call comes. Data and no closure: `phases_of` and the laws of the gate name it.
 #[derive(Clone, Copy)]
 pub enum When {
     Guest,

@@ -1,26 +1,24 @@
 // The migration streams of a session: eight places, whatever the number of created ones.
 ghost use Rattle.std.specs.Prelude.{◌≡◌};
 ghost use Rattle.session.specs.Session.{at_rest, work_of, with_work};
-ghost use Rattle.session.specs.Formed.{work_resting, work_in_range, usable_of, some_stream, out_of_range, out_of_place, busy};
+ghost use Rattle.session.specs.Formed.{work_in_range, usable_of, some_stream, out_of_range, out_of_place, busy};
 
 use crate::Session;
 
-// What a stream is doing. An interrupted export has taken the entries before `next`, of 0 to `last`.
-#[derive(Clone, Copy)]
-pub enum Work {
-    AtRest,
-    Interrupted {
-        next: u64,
-        last: u64,
-        errors: u64,
-        // Data pages so far.
-        filled: u64,
-    },
+// An interrupted export: it has taken the entries before `next`, of 0 to `last`.
+#[derive(Clone, Copy, Debug, PartialEq, Eq)]
+pub struct Interruption {
+    pub next: u64,
+    pub last: u64,
+    pub errors: u64,
+    // Data pages so far.
+    pub filled: u64,
 }
 
+// Where an export on it was interrupted; None: it is at rest.
 #[derive(Clone, Copy)]
 pub struct Stream {
-    pub work: Work,
+    pub work: Option<Interruption>,
 }
 
 pub const STREAM_PLACES: usize = 8;
@@ -34,21 +32,21 @@ pub const MOST_ENTRIES: usize = 512;
 pub fn at_rest() -> [Stream; STREAM_PLACES]
     ensures { result ≡ at_rest }
 {
-    [Stream { work: Work::AtRest }; STREAM_PLACES]
+    [Stream { work: None }; STREAM_PLACES]
 }
 
-// What a stream is doing; at rest where the session has no place for it.
-pub fn work_of(s: Session, at: u64) -> Work
+// What a stream is doing: None at rest, and where the session has no place for it.
+pub fn work_of(s: Session, at: u64) -> Option<Interruption>
     ensures { result ≡ work_of s at }
 {
     if at < STREAM_PLACES as u64 {
         return s.streams[at as usize].work;
     }
-    Work::AtRest
+    None
 }
 
 // The session with other work in one place.
-pub fn with_work(s: Session, at: u64, work: Work) -> Session
+pub fn with_work(s: Session, at: u64, work: Option<Interruption>) -> Session
     ensures { result ≡ with_work s at work }
 {
     if at < STREAM_PLACES as u64 {
@@ -69,26 +67,13 @@ pub fn is_usable(created: u64, at: u64) -> bool
     at + 1 < created
 }
 
-// Whether a stream is at rest.
-pub fn is_resting(work: Work) -> bool
-    ensures { result ≡ work_resting work }
-{
-    matches!(work, Work::AtRest)
-}
-
 // Whether what an interrupted stream holds is in its ranges.
-fn is_in_range(work: Work) -> bool
+fn is_in_range(work: Option<Interruption>) -> bool
     ensures { result ≡ work_in_range work }
 {
-    match work {
-        Work::AtRest => true,
-        Work::Interrupted {
-            next,
-            last,
-            errors,
-            filled,
-        } => { (next <= last) & (last <= LAST_ENTRY) & (errors <= next) & (filled <= next) }
-    }
+    work.is_none_or(|i| {
+        (i.next <= i.last) & (i.last <= LAST_ENTRY) & (i.errors <= i.next) & (i.filled <= i.next)
+    })
 }
 
 // What there is among the streams: an interrupted one, one outside its ranges, an interrupted one that is unusable.
@@ -107,10 +92,10 @@ pub fn find_interrupted(s: Session) -> Found
     let mut outside = false;
     let mut unusable = false;
     for (i, stream) in s.streams.iter().enumerate() {
-        let resting = is_resting(stream.work);
-        any |= !resting;
+        let interrupted = stream.work.is_some();
+        any |= interrupted;
         outside |= !is_in_range(stream.work);
-        unusable |= !resting & !is_usable(s.fixed.created, i as u64);
+        unusable |= interrupted & !is_usable(s.fixed.created, i as u64);
     }
     Found {
         any,

@@ -198,7 +198,7 @@ pub fn is_left(n: u8) -> bool
     )
 }
 
-// ---- where each call takes a state: the number stays where the call has no move for it
+// ---- where each call takes a state: the number stays where the call has no move for it, as `number_by` in each clause says (and an Option would be a jump)
 
 // `to` for the numbers of a mask.
 fn pick(mask: u64, n: u8, to: u8, other: u8) -> u8
@@ -324,6 +324,7 @@ pub fn restore_of(n: u8) -> u8
 
 // ---- a state's numbers in a list word, in tables of two bits for each state's number
 
+// One word holds all of 0 to 31; `words::class_of`, of all 256 numbers, picks one of eight such words first, and no test of its own stands before it.
 fn packed_at(table: u64, n: u8) -> u64
     ensures { result ≡ packed_at table n }
 {

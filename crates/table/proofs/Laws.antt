@@ -9,8 +9,8 @@ use Prim.Native.Nat.{ℕ, zero, suc, ◌+◌, ◌*◌, ◌≤◌, ◌<◌}
 use native.Mathlib.Omega.{arith}
 use native.Mathlib.Nat.{eq-or-lt_of_le}
 use lib.Dec.{ltb}
-use lib.ListN.{length, set, length-set}
-use lib.Seq.{get_or-set_same, get_or-set_other}
+use lib.ListN.{length, get_or, set, length-set}
+use lib.Seq.{get_or-set_same, get_or-set_other, set-get_or}
 use borrow.Author.Tests.{lt-ltb, le-ltb, ltb-true, ltb-false}
 use Rattle.page.specs.Page.{Page, page_of, strange, on_words, unless_strange}
 use Rattle.page.specs.declared.PageWords.{PageWords}
@@ -77,6 +77,17 @@ put_back t i = go (ltb i (page_count t)) refl
     go : (b : Bool) → ltb i (page_count t) ≡ b → words_at (put_at t i (words_at t i)) i ≡ words_at t i
     go true q = put_same t i (words_at t i) (ltb-true _ _ q)
     go false q = ap (λ (u : List ℕ). words_at u i) (put-past t i (words_at t i) q)
+
+-- which leave the table
+pub put_again : (t : List ℕ) (i : ℕ) → put_at t i (words_at t i) ≡ t
+unfolding put_at words_at
+put_again t i = go (ltb i (page_count t))
+  where
+    go : (c : Bool) →
+        let w : PageWords = cond c (record { word = get_or t (2 * i) 0; mark = get_or t (2 * i + 1) 0 }) (record { word = 0; mark = 0 }) in
+        cond c (set (set t (2 * i) w.word) (2 * i + 1) w.mark) t ≡ t
+    go true = rw (set-get_or t (2 * i) 0, set-get_or t (2 * i + 1) 0)
+    go false = refl
 
 -- ---- a sweep, for any move of a page's words
 

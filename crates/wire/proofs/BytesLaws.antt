@@ -1,7 +1,7 @@
 -- Words and bytes: how many there are of each, what is read at each place, that reading and writing undo each other, and that a word, a page or a part is
 -- put among bytes as among words. A word's bytes are eight in a row, so most laws go by recursion on the words, eight bytes a step.
 use Rattle.std.specs.Int.{w64, from_le_bytes, to_le_bytes}
-use Rattle.std.proofs.lemmas.List.Edits.{sets-eq}
+use Rattle.std.proofs.lemmas.List.Edits.{sets, sets-eq}
 use borrow.Rule.Slice.PartMut.{put_mid}
 use mathlib.Core.Path.{◌≡◌, refl, sym, ap, ◌∙◌}
 use mathlib.Core.Logic.{⊎_elim}
@@ -13,10 +13,10 @@ use native.Mathlib.Numerals.{add-one}
 use native.Mathlib.Nat.{eq-or-lt_of_le, le_of_suc-le-suc, add_assoc, add-zero}
 use lib.Dec.{ltb}
 use lib.ListN.{length, get_or, set, take, drop, replicate, length-append, length-drop, length-set, get_or-append}
-use lib.Seq.{drop-drop, ext_get_or, get_or_at, get_or-drop, take-suc, take-add, take_all, set-get_or}
+use lib.Seq.{drop-drop, ext_get_or, get_or_at, get_or-drop, take-suc, take-add, take_all, length-sets, length-take-le}
 use borrow.Author.Tests.{ltb-true}
 use Rattle.page.specs.declared.PageWords.{PageWords}
-use Rattle.table.specs.Table.{page_count, words_at, put_at}
+use Rattle.table.specs.Table.{page_count, put_at}
 use Rattle.wire.specs.Bytes.{half_at, word_at, half_bytes, word_bytes, put_word, up_to, words_of, bytes_of, Bytes, Words}
 use Rattle.wire.specs.Tables.{put_page}
 
@@ -205,20 +205,6 @@ page-bytes b i w y h =
         ∙ put_two (words_of b) i w.word w.mark (rw (words-length b) (omega arith))
     go false q = sym (bytes_back b y h)
 
--- a page's own words, put again, leave the bytes
-put-again : (t : List ℕ) (i : ℕ) → put_at t i (words_at t i) ≡ t
-unfolding put_at words_at
-put-again t i = go (ltb i (page_count t))
-  where
-    go : (c : Bool) →
-        let w : PageWords = cond c (record { word = get_or t (2 * i) 0; mark = get_or t (2 * i + 1) 0 }) (record { word = 0; mark = 0 }) in
-        cond c (set (set t (2 * i) w.word) (2 * i + 1) w.mark) t ≡ t
-    go true = rw (set-get_or t (2 * i) 0, set-get_or t (2 * i + 1) 0)
-    go false = refl
-
-pub page-again : (b : List ℕ) (i : ℕ) → Bytes b → length b % 8 ≡ 0 → put_page b i (words_at (words_of b) i) ≡ b
-page-again b i y h = page-bytes b i (words_at (words_of b) i) y h ∙ ap bytes_of (put-again (words_of b) i) ∙ bytes_back b y h
-
 -- ---- what is put into words stays words, so that a page that was put is read
 
 words_more : (v : List ℕ) (x : ℕ) → Words v → x < 0x10000000000000000 → Words (v ++ (x ∷ []))
@@ -262,6 +248,75 @@ pub words-put : (b : List ℕ) (i : ℕ) (w : PageWords) → Bytes b → length 
 words-put b i w y h k m =
     ap words_of (page-bytes b i w y h) ∙ words_back (put_at (words_of b) i w) (put_small (words_of b) i w (words_small b y) k m)
 
+-- one word among others
+pub words-put-word : (b : List ℕ) (i x : ℕ) → Bytes b → length b % 8 ≡ 0 → i < length b / 8 → x < 0x10000000000000000 →
+    words_of (put_word b (8 * i) x) ≡ set (words_of b) i x
+words-put-word b i x y h l k =
+    let inside : i < length (words_of b) = rw (words-length b) l in
+    ap (λ (r : List ℕ). words_of (put_word r (8 * i) x)) (sym (bytes_back b y h)) ∙ ap words_of (put-bytes (words_of b) i x inside)
+    ∙ words_back (set (words_of b) i x) (words-set (words_of b) i x (words_small b y) k)
+
+-- ---- bytes behind the last whole word are none: a page or a word is put among the words of any bytes
+
+take_set : (l : List ℕ) (n i x : ℕ) → take n (set l i x) ≡ set (take n l) i x
+take_set [] zero i x = refl
+take_set [] (suc n) i x = refl
+take_set (y ∷ l) zero zero x = refl
+take_set (y ∷ l) zero (suc i) x = refl
+take_set (y ∷ l) (suc n) zero x = refl
+take_set (y ∷ l) (suc n) (suc i) x = ap (λ (r : List ℕ). y ∷ r) (take_set l n i x)
+
+take_sets : (vs l : List ℕ) (n i : ℕ) → take n (sets l i vs) ≡ sets (take n l) i vs
+take_sets [] l n i = refl
+take_sets (x ∷ vs) l n i = take_sets vs (set l i x) n (suc i) ∙ ap (λ (r : List ℕ). sets r (suc i) vs) (take_set l n i x)
+
+take_bytes : (l : List ℕ) (n : ℕ) → Bytes l → Bytes (take n l)
+take_bytes l zero h i = omega arith
+take_bytes [] (suc n) h i = h i
+take_bytes (x ∷ l) (suc n) h zero = h 0
+take_bytes (x ∷ l) (suc n) h (suc i) = take_bytes l n (λ j. h (suc j)) i
+
+-- the bytes of the whole words
+abbrev whole : List ℕ → List ℕ
+whole b = take (8 * (length b / 8)) b
+
+whole_words : (b : List ℕ) → Bytes b → bytes_of (words_of b) ≡ whole b
+unfolding words_of
+whole_words b y = words-front b (length b / 8) y (omega arith)
+
+words_whole : (b : List ℕ) → Bytes b → words_of (whole b) ≡ words_of b
+words_whole b y = ap words_of (sym (whole_words b y)) ∙ words_back (words_of b) (words_small b y)
+
+page-long : (b : List ℕ) (i : ℕ) (w : PageWords) → length (put_page b i w) ≡ length b
+unfolding put_page put_word
+page-long b i w = go (ltb i (length b / 16))
+  where
+    go : (c : Bool) → length (cond c (sets (sets b (16 * i) (word_bytes w.word)) (16 * i + 8) (word_bytes w.mark)) b) ≡ length b
+    go true = length-sets (sets b (16 * i) (word_bytes w.word)) (16 * i + 8) (word_bytes w.mark) ∙ length-sets b (16 * i) (word_bytes w.word)
+    go false = refl
+
+page-whole : (b : List ℕ) (i : ℕ) (w : PageWords) → take (8 * (length b / 8)) (put_page b i w) ≡ put_page (whole b) i w
+unfolding put_page put_word
+page-whole b i w =
+    let n = 8 * (length b / 8) in
+    let same : length (take n b) / 16 ≡ length b / 16 = rw (length-take-le n b (omega arith)) (omega arith) in
+    rw same (go n (ltb i (length b / 16)))
+  where
+    go : (n : ℕ) (c : Bool) → take n (cond c (sets (sets b (16 * i) (word_bytes w.word)) (16 * i + 8) (word_bytes w.mark)) b)
+        ≡ cond c (sets (sets (take n b) (16 * i) (word_bytes w.word)) (16 * i + 8) (word_bytes w.mark)) (take n b)
+    go n true =
+        take_sets (word_bytes w.mark) (sets b (16 * i) (word_bytes w.word)) n (16 * i + 8)
+        ∙ ap (λ (r : List ℕ). sets r (16 * i + 8) (word_bytes w.mark)) (take_sets (word_bytes w.word) b n (16 * i))
+    go n false = refl
+
+pub words-store : (b : List ℕ) (i : ℕ) (w : PageWords) → Bytes b → Bytes (put_page b i w) → w.word < 0x10000000000000000 → w.mark < 0x10000000000000000 →
+    words_of (put_page b i w) ≡ put_at (words_of b) i w
+words-store b i w y z k m =
+    let long : length (whole b) % 8 ≡ 0 = rw (length-take-le (8 * (length b / 8)) b (omega arith)) (omega arith) in
+    sym (words_whole (put_page b i w) z) ∙ ap (λ (n : ℕ). words_of (take (8 * (n / 8)) (put_page b i w))) (page-long b i w)
+    ∙ ap words_of (page-whole b i w) ∙ words-put (whole b) i w (take_bytes b (8 * (length b / 8)) y) long k m
+    ∙ ap (λ (r : List ℕ). put_at r i w) (words_whole b y)
+
 -- the pages of the bytes are those of the words
 pub page-count : (b : List ℕ) → page_count (words_of b) ≡ length b / 16
 page-count b = rw (words-length b) (omega arith)
@@ -270,14 +325,21 @@ pub zero-bytes : (n : ℕ) → bytes_of (replicate n 0) ≡ replicate (8 * n) 0
 zero-bytes zero = refl
 zero-bytes (suc n) = rw (eight-more n) (ap (λ (r : List ℕ). word_bytes 0 ++ r) (zero-bytes n))
 
--- ---- one word among others, and a part of the words
+-- ---- a part of the words
 
-pub words-put-word : (b : List ℕ) (i x : ℕ) → Bytes b → length b % 8 ≡ 0 → i < length b / 8 → x < 0x10000000000000000 →
+-- the same of any bytes
+pub word-store : (b : List ℕ) (i x : ℕ) → Bytes b → Bytes (put_word b (8 * i) x) → i < length b / 8 → x < 0x10000000000000000 →
     words_of (put_word b (8 * i) x) ≡ set (words_of b) i x
-words-put-word b i x y h l k =
-    let inside : i < length (words_of b) = rw (words-length b) l in
-    ap (λ (r : List ℕ). words_of (put_word r (8 * i) x)) (sym (bytes_back b y h)) ∙ ap words_of (put-bytes (words_of b) i x inside)
-    ∙ words_back (set (words_of b) i x) (words-set (words_of b) i x (words_small b y) k)
+unfolding put_word
+word-store b i x y z l k =
+    let n = 8 * (length b / 8) in
+    let eights : length (whole b) ≡ n = length-take-le n b (omega arith) in
+    let inside : i < length (whole b) / 8 = rw eights (omega arith) in
+    sym (words_whole (put_word b (8 * i) x) z)
+    ∙ ap (λ (m : ℕ). words_of (take (8 * (m / 8)) (put_word b (8 * i) x))) (length-sets b (8 * i) (word_bytes x))
+    ∙ ap words_of (take_sets (word_bytes x) b n (8 * i))
+    ∙ words-put-word (whole b) i x (take_bytes b n y) (rw eights (omega arith)) inside k
+    ∙ ap (λ (r : List ℕ). set r i x) (words_whole b y)
 
 bytes_take : (w : List ℕ) (n : ℕ) → take (8 * n) (bytes_of w) ≡ bytes_of (take n w)
 bytes_take w zero = refl

@@ -1,4 +1,5 @@
 -- What a change writes is the session that it makes: words that are put among a session's bytes are put among its words, and there every part has its place.
+use Rattle.std.specs.Prelude.{Option}
 use mathlib.Core.Path.{◌≡◌, refl, sym, ap, ◌∙◌}
 use mathlib.Core.Bool.{Bool, true, false, cond}
 use mathlib.Core.List.{List, [], ◌∷◌, ◌++◌, append_assoc}
@@ -14,7 +15,7 @@ use Rattle.session.specs.Session.{begun, with_phase, with_epoch, with_clock, wit
 use Rattle.session.specs.declared.Session.{Session}
 use Rattle.session.specs.declared.changes.Change.{Change}
 use Rattle.session.specs.declared.changes.Change.TheVariants.{Nothing, ToPhase, ToEpoch, ToClock, ToCheck, Begin, ToWork}
-use Rattle.session.specs.declared.streams.Work.{Work}
+use Rattle.session.specs.declared.streams.Interruption.{Interruption}
 use Rattle.session.specs.declared.streams.Stream.{Stream}
 use Rattle.wire.specs.Bytes.{put_word, put_words, words_of, bytes_of, Bytes}
 use Rattle.wire.specs.Sessions.{session_length, own_words, check_words, streams_place, stream_place, work_words, five, streams_from, fits}
@@ -99,17 +100,17 @@ words-in s (suc n) i e h =
     rw (drop-cons s.streams i resting (omega arith), work-there s i (omega arith))
     (ap (λ (r : List ℕ). five (work_words (work_at s i)) ++ r) (words-in s n (suc i) (omega arith) h))
 
-set-in : (l : List Stream) (k : ℕ) (work : Work) → k < length l →
+set-in : (l : List Stream) (k : ℕ) (work : Option Interruption) → k < length l →
     sets (words_in l) (5 * k) (five (work_words work)) ≡ words_in (set l k (record { work = work }))
 set-in [] k work h = absurd (omega arith)
 set-in (x ∷ l) zero work h = refl
 set-in (x ∷ l) (suc k) work h =
     rw (five-more k) (ap (λ (r : List ℕ). five (work_words x.work) ++ r) (set-in l k work (le_of_suc-le-suc h)))
 
-abbrev with_other : Session → ℕ → Work → Session
+abbrev with_other : Session → ℕ → Option Interruption → Session
 with_other s k work = with_streams s (set s.streams k (record { work = work }))
 
-work-written : (s : Session) (k : ℕ) (work : Work) → k < stream_places → length s.streams ≡ stream_places →
+work-written : (s : Session) (k : ℕ) (work : Option Interruption) → k < stream_places → length s.streams ≡ stream_places →
     sets (session_words s) (stream_place k) (five (work_words work)) ≡ session_words (with_other s k work)
 unfolding session_words
 work-written s k work h e =

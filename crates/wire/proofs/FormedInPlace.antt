@@ -1,5 +1,6 @@
 -- `formed` asks several things of every stream, one after the other, and `fits` one more. A test of some stream that is a choice of tests is the choice of
 -- the tests of some stream, so all of it is one look at each stream; what is asked of the other words stands apart from it.
+use Rattle.std.specs.Prelude.{Option, Some, None}
 use mathlib.Core.Path.{◌≡◌, refl, sym, ap, ap₂, ◌∙◌}
 use mathlib.Core.Logic.{⊎_elim}
 use mathlib.Core.Bool.{Bool, true, false, cond, not, ◌&&◌, ◌||◌, and-false, or-true, or-false, or_assoc, and-or_distrib_right}
@@ -16,8 +17,7 @@ use Rattle.session.specs.Formed.{last_epoch, last_entry, fewest_created, most_cr
 use Rattle.session.specs.Formed.{interrupted, out_of_range, out_of_place, busy, some_of, formed}
 use Rattle.session.specs.declared.Phase.TheVariants.{Idle, Live, Blackout, Done}
 use Rattle.session.specs.declared.Session.{Session}
-use Rattle.session.specs.declared.streams.Work.{Work}
-use Rattle.session.specs.declared.streams.Work.TheVariants.{AtRest, Interrupted}
+use Rattle.session.specs.declared.streams.Interruption.{Interruption}
 use Rattle.wire.specs.Sessions.{phase_of, own_fits, check_fits, stream_place, stream_fits, five_at, stream_formed, streams_formed, fits, session_of}
 use Rattle.wire.specs.declared.streams.StreamWords.{StreamWords}
 use Rattle.wire.proofs.SessionLaws.{meant, fit, read-work}
@@ -82,7 +82,7 @@ module _ (x : StreamWords) (able moves : Bool) where
   abbrev in_range : Bool
   in_range = leb x.next x.last && leb x.last last_entry && leb x.errors x.next && leb x.filled x.next
 
-  abbrev wrong : Work → Bool
+  abbrev wrong : Option Interruption → Bool
   wrong work = not (work_in_range work) || (not (work_resting work) && not able || not (work_resting work) && not moves)
 
   one-look : not (stream_formed (able && moves) x) ≡ (not (fit x) || wrong (meant x).work)
@@ -102,7 +102,7 @@ module _ (x : StreamWords) (able moves : Bool) where
           z && eqb x.next 0 && eqb x.last 0 && eqb x.errors 0 && eqb x.filled 0
           || o && leb x.next x.last && leb x.last last_entry && leb x.errors x.next && leb x.filled x.next && (able && moves)
           )
-          ≡ (not (o || z && blank) || wrong (cond z AtRest (Interrupted x.next x.last x.errors x.filled)))
+          ≡ (not (o || z && blank) || wrong (cond z None (Some (record { next = x.next; last = x.last; errors = x.errors; filled = x.filled }))))
       go true p true q =
           let none : x.flag ≡ 0 = eqb-true _ _ p in
           let one : x.flag ≡ 1 = eqb-true _ _ q in
@@ -113,11 +113,11 @@ module _ (x : StreamWords) (able moves : Bool) where
 
 -- it is interrupted where its flag is not 0
 pub flag-tells : (w : List ℕ) (k : ℕ) → k < stream_places → not (eqb (get_or w (stream_place k) 0) 0) ≡ interrupted (session_of w) k
-flag-tells w k h = rw (read-work w k h) (go (eqb (get_or w (stream_place k) 0) 0) _ _ _ _)
+flag-tells w k h = rw (read-work w k h) (go (eqb (get_or w (stream_place k) 0) 0) _)
   where
-    go : (z : Bool) (next last errors filled : ℕ) → not z ≡ not (work_resting (cond z AtRest (Interrupted next last errors filled)))
-    go true next last errors filled = refl
-    go false next last errors filled = refl
+    go : (z : Bool) (x : Interruption) → not z ≡ not (work_resting (cond z None (Some x)))
+    go true x = refl
+    go false x = refl
 
 -- stream i is not as it may be; its words fit no stream
 abbrev pub wrong_in : Bool → ℕ → List ℕ → ℕ → Bool

@@ -1,7 +1,7 @@
 -- A session and its 48 words determine each other, part by part: what is written of a part is read again, passes its tests and is words, and words that pass
 -- its tests are written again as they were. The session's laws are the parts' in a row.
 use Rattle.std.specs.Result.{result_unwrap_or}
-use Rattle.std.specs.Prelude.{Result, Ok, Err}
+use Rattle.std.specs.Prelude.{Result, Ok, Err, Option, Some, None}
 use mathlib.Core.Path.{◌≡◌, refl, sym, ap, ap₂, ◌∙◌}
 use mathlib.Core.Bool.{Bool, true, false, cond, not, ◌&&◌, ◌||◌, true≢false}
 use mathlib.Core.List.{List, [], ◌∷◌, ◌++◌}
@@ -20,8 +20,7 @@ use Rattle.session.specs.declared.Phase.TheVariants.{Idle, Live, Blackout, Done}
 use Rattle.session.specs.declared.phases.UnknownPhase.{UnknownPhase}
 use Rattle.session.specs.declared.Check.{Check}
 use Rattle.session.specs.declared.Session.{Session}
-use Rattle.session.specs.declared.streams.Work.{Work}
-use Rattle.session.specs.declared.streams.Work.TheVariants.{AtRest, Interrupted}
+use Rattle.session.specs.declared.streams.Interruption.{Interruption}
 use Rattle.session.specs.declared.streams.Stream.{Stream}
 use Rattle.session.proofs.FormedLaws.{every-hold, hold-every, none_below, below_none, WorkFormed, Formed, formed-means, idle-is}
 use Rattle.wire.specs.Bytes.{up_to, Words}
@@ -108,18 +107,18 @@ abbrev pub five_of : List ℕ → StreamWords
 five_of l = record { flag = get_or l 0 0; next = get_or l 1 0; last = get_or l 2 0; errors = get_or l 3 0; filled = get_or l 4 0 }
 
 abbrev pub meant : StreamWords → Stream
-meant x = record { work = cond (eqb x.flag 0) AtRest (Interrupted x.next x.last x.errors x.filled) }
+meant x = record { work = cond (eqb x.flag 0) None (Some (record { next = x.next; last = x.last; errors = x.errors; filled = x.filled })) }
 
 abbrev pub fit : StreamWords → Bool
 fit x = eqb x.flag 1 || eqb x.flag 0 && (eqb x.next 0 && eqb x.last 0 && eqb x.errors 0 && eqb x.filled 0)
 
-work-back : (r : Work) → meant (work_words r) ≡ record { work = r }
-work-back AtRest = refl
-work-back (Interrupted next last errors filled) = refl
+work-back : (r : Option Interruption) → meant (work_words r) ≡ record { work = r }
+work-back None = refl
+work-back (Some x) = refl
 
-work-fits : (r : Work) → fit (work_words r) ≡ true
-work-fits AtRest = refl
-work-fits (Interrupted next last errors filled) = refl
+work-fits : (r : Option Interruption) → fit (work_words r) ≡ true
+work-fits None = refl
+work-fits (Some x) = refl
 
 one_of : {P : Type 0} (a b : Bool) → (a ≡ true → P) → (b ≡ true → P) → (a || b) ≡ true → P
 one_of true b f g e = f refl
@@ -131,7 +130,7 @@ work-again x = go x.flag x.next x.last x.errors x.filled
     go :
         (f n l e p : ℕ) →
         fit (record { flag = f; next = n; last = l; errors = e; filled = p }) ≡ true →
-        work_words (cond (eqb f 0) AtRest (Interrupted n l e p)) ≡ record { flag = f; next = n; last = l; errors = e; filled = p }
+        work_words (cond (eqb f 0) None (Some (record { next = n; last = l; errors = e; filled = p }))) ≡ record { flag = f; next = n; last = l; errors = e; filled = p }
     go f n l e p =
         let rest = eqb n 0 && eqb l 0 && eqb e 0 && eqb p 0 in
         one_of (eqb f 1) (eqb f 0 && rest) (λ one. rw (eqb-true f 1 one))
@@ -274,9 +273,9 @@ bit_word b =
     let small : bit_of b ≤ 1 = leb-true _ _ (bit-fits b) in
     omega arith
 
-work-words : (r : Work) (l : List ℕ) → WorkNumbers r → AllWords l → AllWords (five (work_words r) ++ l)
-work-words AtRest l h a = (lit< tt, (lit< tt, (lit< tt, (lit< tt, (lit< tt, a)))))
-work-words (Interrupted next last errors filled) l h a = (lit< tt, (h.0, (h.1, (h.2, (h.3, a)))))
+work-words : (r : Option Interruption) (l : List ℕ) → WorkNumbers r → AllWords l → AllWords (five (work_words r) ++ l)
+work-words None l h a = (lit< tt, (lit< tt, (lit< tt, (lit< tt, (lit< tt, a)))))
+work-words (Some x) l h a = (lit< tt, (h.0, (h.1, (h.2, (h.3, a)))))
 
 streams-words : (s : Session) (n i : ℕ) → Numbers s → AllWords (streams_from s n i)
 streams-words s zero i h = tt
@@ -318,9 +317,9 @@ formed-numbers s len e =
     epoch f true q = omega (arith, f.idle (idle-is s.phase q))
     epoch f false q = omega (arith, (f.begun (λ p. true≢false (sym (ap (among (Idle ∷ [])) p) ∙ q))).high)
 
-    work : (moves : Bool) (created i : ℕ) (r : Work) → WorkFormed moves created i r → WorkNumbers r
-    work moves created i AtRest w = tt
-    work moves created i (Interrupted next last errors filled) w = (omega arith, omega arith, omega arith, omega arith)
+    work : (moves : Bool) (created i : ℕ) (r : Option Interruption) → WorkFormed moves created i r → WorkNumbers r
+    work moves created i None w = tt
+    work moves created i (Some x) w = (omega arith, omega arith, omega arith, omega arith)
 
 pub formed-words : (s : Session) (len : ℕ) → formed s len ≡ true → Words (session_words s)
 formed-words s len e = session-words s (formed-numbers s len e)

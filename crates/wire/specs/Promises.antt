@@ -1,10 +1,9 @@
 -- A session and its bytes determine each other.
-use Rattle.std.specs.Prelude.{◌≡◌, true, List, ℕ, ◌*◌, ◌<◌, length, replicate}
+use Rattle.std.specs.Prelude.{◌≡◌, true, List, ℕ, ◌*◌, ◌<◌, length, replicate, Option, Some, None}
 use Rattle.session.specs.Session.{stream_places, new_session, work_of}
 use Rattle.session.specs.Formed.{formed}
 use Rattle.session.specs.declared.Session.{Session}
-use Rattle.session.specs.declared.streams.Work.{Work}
-use Rattle.session.specs.declared.streams.Work.TheVariants.{AtRest, Interrupted}
+use Rattle.session.specs.declared.streams.Interruption.{Interruption}
 use Rattle.wire.specs.Bytes.{words_of, bytes_of, Bytes}
 use Rattle.wire.specs.Sessions.{session_length, fits, session_of, session_words}
 
@@ -13,9 +12,9 @@ abbrev pub Word : ℕ → Type 0
 Word x = x < 0x10000000000000000
 
 -- the numbers of a stream's work are words
-abbrev pub WorkNumbers : Work → Type 0
-WorkNumbers AtRest = Unit
-WorkNumbers (Interrupted next last errors filled) = Word next × Word last × Word errors × Word filled
+abbrev pub WorkNumbers : Option Interruption → Type 0
+WorkNumbers None = Unit
+WorkNumbers (Some x) = Word x.next × Word x.last × Word x.errors × Word x.filled
 
 -- and all of a session. A session that is a value in the code has eight places for streams, and its numbers are words; `formed` bounds them further
 pub record Numbers (s : Session) : Type 0 where

@@ -1,6 +1,6 @@
 -- The session as 48 words, part by part: its own numbers, the check, and five words for each stream. Of each part: what its words must be, what they mean in
 -- their place, and the words that it is. At the end, what a change writes of them.
-use Rattle.std.specs.Prelude.{Bool, true, false, cond, not, ◌&&◌, ◌||◌, List, [], ◌∷◌, ◌++◌, ℕ, zero, suc, ◌+◌, ◌*◌, eqb, leb, ltb, get_or, replicate}
+use Rattle.std.specs.Prelude.{Bool, true, false, cond, not, ◌&&◌, ◌||◌, List, [], ◌∷◌, ◌++◌, ℕ, zero, suc, ◌+◌, ◌*◌, eqb, leb, ltb, get_or, replicate, Option, Some, None}
 use Rattle.session.specs.Session.{phase_number, unchecked, stream_places, work_of}
 use Rattle.session.specs.Formed.{last_entry, some_below}
 use Rattle.session.specs.declared.Phase.{Phase}
@@ -9,8 +9,7 @@ use Rattle.session.specs.declared.Check.{Check}
 use Rattle.session.specs.declared.Session.{Session}
 use Rattle.session.specs.declared.changes.Change.{Change}
 use Rattle.session.specs.declared.changes.Change.TheVariants.{Nothing, ToPhase, ToEpoch, ToClock, ToCheck, Begin, ToWork}
-use Rattle.session.specs.declared.streams.Work.{Work}
-use Rattle.session.specs.declared.streams.Work.TheVariants.{AtRest, Interrupted}
+use Rattle.session.specs.declared.streams.Interruption.{Interruption}
 use Rattle.session.specs.declared.streams.Stream.{Stream}
 use Rattle.wire.specs.declared.streams.StreamWords.{StreamWords}
 use Rattle.wire.specs.Bytes.{up_to, put_words}
@@ -67,14 +66,14 @@ streams_fit w = not (some_below (λ i. not (stream_fits w (stream_place i))) str
 -- the stream whose five words begin at `at`: interrupted, next entry, last entry, errors, data pages
 abbrev pub stream_at : List ℕ → ℕ → Stream
 stream_at w at =
-    record { work = cond (eqb (get_or w at 0) 0) AtRest (Interrupted (get_or w (at + 1) 0) (get_or w (at + 2) 0) (get_or w (at + 3) 0) (get_or w (at + 4) 0)) }
+    record { work = cond (eqb (get_or w at 0) 0) None (Some (record { next = get_or w (at + 1) 0; last = get_or w (at + 2) 0; errors = get_or w (at + 3) 0; filled = get_or w (at + 4) 0 })) }
 
 abbrev pub streams_of : List ℕ → List Stream
 streams_of w = up_to (λ i. stream_at w (stream_place i)) stream_places
 
-abbrev pub work_words : Work → StreamWords
-work_words AtRest = record { flag = 0; next = 0; last = 0; errors = 0; filled = 0 }
-work_words (Interrupted next last errors filled) = record { flag = 1; next = next; last = last; errors = errors; filled = filled }
+abbrev pub work_words : Option Interruption → StreamWords
+work_words None = record { flag = 0; next = 0; last = 0; errors = 0; filled = 0 }
+work_words (Some x) = record { flag = 1; next = x.next; last = x.last; errors = x.errors; filled = x.filled }
 
 -- the five in a row
 abbrev pub five : StreamWords → List ℕ

@@ -9,7 +9,7 @@ ghost use Rattle.wire.specs.Sessions.{phase_of, own_words, check_words, fits, se
 use crate::{bytes, streams};
 use page::Clock;
 use session::changes::Change;
-use session::streams::{STREAM_PLACES, Work};
+use session::streams::{Interruption, STREAM_PLACES};
 use session::{Check, FEWEST_CREATED, LAST_EPOCH, MOST_CREATED, Phase, Session, changes};
 
 // How many words a session is.
@@ -103,22 +103,22 @@ pub fn is_busy(b: &[u8; SESSION_BYTES]) -> bool
     any
 }
 
-// What a stream is doing; at rest where the session has no place for it.
-pub fn work_at(b: &[u8; SESSION_BYTES], stream: u64) -> Work
+// What a stream is doing: None at rest, and where the session has no place for it.
+pub fn work_at(b: &[u8; SESSION_BYTES], stream: u64) -> Option<Interruption>
     ensures { result ≡ work_of (session_of (words_of b.now)) stream }
 {
     if stream < STREAM_PLACES as u64 {
         let x = streams::five_at(b, streams::stream_place(stream as usize));
         if x.flag != 0 {
-            return Work::Interrupted {
+            return Some(Interruption {
                 next: x.next,
                 last: x.last,
                 errors: x.errors,
                 filled: x.filled,
-            };
+            });
         }
     }
-    Work::AtRest
+    None
 }
 
 // ---- all of it

@@ -4,11 +4,12 @@ ghost use Rattle.session.specs.Session.{stream_places};
 ghost use Rattle.wire.specs.Bytes.{words_of, put_words};
 ghost use Rattle.wire.specs.Sessions.{streams_place, stream_place, five_at, stream_formed, streams_formed, work_words, five, streams_from};
 
+use crate::bytes;
 use crate::sessions::SESSION_BYTES;
-use crate::{bytes, tables};
-use session::streams::{LAST_ENTRY, STREAM_PLACES, Work};
+use session::streams::{Interruption, LAST_ENTRY, STREAM_PLACES};
 use session::{Session, streams};
 
+// The layout's five words, the first of them a flag.
 #[derive(Clone, Copy)]
 pub struct StreamWords {
     pub flag: u64,
@@ -38,7 +39,7 @@ pub fn five_at(b: &[u8], at: usize) -> StreamWords
     }
 }
 
-// At rest, or interrupted in its ranges and able to be.
+// At rest, or interrupted in its ranges and able to be. Each word by itself: a derived `==` would be a jump at each.
 fn is_stream(x: StreamWords, able: bool) -> bool
     ensures { result ≡ stream_formed able x }
 {
@@ -74,33 +75,28 @@ fn put_five(b: &mut [u8], at: usize, x: StreamWords)
     bytes::put_number(b, at + 4, x.filled);
 }
 
-fn stream_words(work: Work) -> StreamWords
+fn stream_words(work: Option<Interruption>) -> StreamWords
     ensures { result ≡ work_words work }
 {
     match work {
-        Work::AtRest => StreamWords {
+        None => StreamWords {
             flag: 0,
             next: 0,
             last: 0,
             errors: 0,
             filled: 0,
         },
-        Work::Interrupted {
-            next,
-            last,
-            errors,
-            filled,
-        } => StreamWords {
+        Some(i) => StreamWords {
             flag: 1,
-            next,
-            last,
-            errors,
-            filled,
+            next: i.next,
+            last: i.last,
+            errors: i.errors,
+            filled: i.filled,
         },
     }
 }
 
-pub fn put_work(b: &mut [u8; SESSION_BYTES], i: usize, work: Work)
+pub fn put_work(b: &mut [u8; SESSION_BYTES], i: usize, work: Option<Interruption>)
     requires { i < stream_places }
     ensures { b.new ≡ put_words b.old (stream_place i) (five (work_words work)) }
 {
@@ -111,7 +107,7 @@ pub fn put_work(b: &mut [u8; SESSION_BYTES], i: usize, work: Work)
 pub fn rest_streams(b: &mut [u8; SESSION_BYTES])
     ensures { b.new ≡ put_words b.old streams_place (replicate (5 * stream_places) 0) }
 {
-    tables::clear(&mut b[64..384]);
+    b[64..384].fill(0);
 }
 
 // Those of a session.

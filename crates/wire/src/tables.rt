@@ -1,16 +1,16 @@
-// The table's bytes as pages: each is read, written and looked for in place, and all of them moved or cleared. A page's sixteen bytes are read and written,
-// and no others. Past the end there are zeros, and nothing is written there.
-ghost use Rattle.std.specs.Prelude.{◌≡◌, ◌%◌, length, replicate};
-ghost use Rattle.page.specs.Page.{on_words, sought};
+// The table's bytes as pages: each is read, written and looked for in place, and all of them moved. A page's sixteen bytes are read and written, and
+// no others. Past the end there are zeros, and nothing is written there.
+ghost use Rattle.std.specs.Prelude.{◌≡◌, ◌%◌, length};
+ghost use Rattle.page.specs.Page.{on_words};
 ghost use Rattle.page.specs.Sweeps.{swept_by};
-ghost use Rattle.table.specs.Table.{words_at, sweep_of, first_page, some};
+ghost use Rattle.table.specs.Table.{words_at, sweep_of};
 ghost use Rattle.wire.specs.Bytes.{words_of, bytes_of};
 ghost use Rattle.wire.specs.Tables.{put_page};
 
 use crate::bytes;
-use page::queries::Sought;
+use page::PageWords;
 use page::sweeps::Sweep;
-use page::{PageWords, queries, sweeps};
+use table::Form;
 
 pub fn load(b: &[u8], at: usize) -> PageWords
     ensures { result ≡ words_at (words_of b.now) at }
@@ -33,13 +33,43 @@ pub fn store(b: &mut [u8], at: usize, w: PageWords)
     }
 }
 
-// Other words for a page that has those before; where they are the same nothing is written.
-pub fn replace(b: &mut [u8], at: usize, before: PageWords, after: PageWords)
-    requires { (length b.old % 8 ≡ 0) × (before ≡ words_at (words_of b.old) at) }
-    ensures { b.new ≡ put_page b.old at after }
-{
-    if after != before {
-        store(b, at, after);
+// The table lent as bytes, and a list.
+pub enum InBytes {}
+
+impl Form for InBytes {
+    type Unit = u8;
+
+    ghost words = { words_of };
+
+    fn pages(table: &[u8]) -> usize {
+        table.len() / 16
+    }
+
+    fn load(table: &[u8], at: usize) -> PageWords {
+        load(table, at)
+    }
+
+    fn store(table: &mut [u8], at: usize, w: PageWords) {
+        store(table, at, w);
+    }
+
+    fn len(list: &[u8]) -> usize {
+        list.len() / 8
+    }
+
+    // The list is of bytes: `get` would find one of them, and not a word.
+    fn word(list: &[u8], at: usize) -> u64 {
+        if at < list.len() / 8 {
+            bytes::number(list, at)
+        } else {
+            0
+        }
+    }
+
+    fn put(list: &mut [u8], at: usize, x: u64) {
+        if at < Self::len(list) {
+            bytes::put_word(list, 8 * at, x);
+        }
     }
 }
 
@@ -48,30 +78,5 @@ pub fn sweep_all(b: &mut [u8], k: Sweep)
     requires { length b.old % 8 ≡ 0 }
     ensures { b.new ≡ bytes_of (sweep_of (on_words (swept_by k)) (words_of b.old)) }
 {
-    for i in 0..b.len() / 16 {
-        let before = load(b, i);
-        let after = sweeps::sweep_words(k, before);
-        store(b, i, after);
-    }
-}
-
-// The lowest page of a kind.
-pub fn find(b: &[u8], k: Sought) -> Option<usize>
-    ensures { result ≡ first_page (sought k) (words_of b.now) }
-{
-    (0..b.len() / 16).find(|i| queries::is_sought(k, load(b, *i)))
-}
-
-// There is a page of the kind.
-pub fn has(b: &[u8], k: Sought) -> bool
-    ensures { result ≡ some (sought k) (words_of b.now) }
-{
-    find(b, k).is_some()
-}
-
-// Every byte 0.
-pub fn clear(b: &mut [u8])
-    ensures { b.new ≡ replicate (length b.old) 0 }
-{
-    b.fill(0);
+    table::sweep_all::<InBytes>(b, k);
 }

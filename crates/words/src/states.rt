@@ -1,4 +1,5 @@
-// The state numbers of a Secure EPT entry (000, tables 1.7 and 1.8).
+// The state numbers of a Secure EPT entry (000, tables 1.7 and 1.8). Numbers and no enum: a record holds any byte, and `class_of` and `is_strange` promise
+// something of each of the 256.
 
 // Those that the base uses. A record in any other state is strange.
 pub const FREE: u8 = 0;

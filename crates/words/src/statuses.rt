@@ -2,6 +2,7 @@
 ghost use Rattle.std.specs.Prelude.{◌≡◌};
 ghost use Rattle.words.specs.Statuses.{failure_number};
 
+// A number, as `Taken` has it, which `failed` and the theorems on entries are about.
 pub const SUCCESS: u64 = 0;
 
 // Why an entry is not taken.

@@ -19,4 +19,4 @@ returns-clause-value c = rw (← c.in_ok-allow_new.ensures, c.new_session-sessio
 
 pub returns-clause-table_after : goal.returns-clause-table_after
 unfolding new_out answered
-returns-clause-table_after c = rw (← c.in_ok-allow_new.ensures) c.clear.ensures
+returns-clause-table_after c = rw (← c.in_ok-allow_new.ensures) (search rules)

@@ -1,36 +1,78 @@
--- What is left to scan gives what the whole scan gives: each round either stops or goes on to the next page.
+-- What is left to scan gives what the whole scan gives: each round either stops or goes on to the next page. A page that is neither blocked nor listed stops no
+-- scan that has budget left.
 use borrow.Author.Rules.{rules}
-use Rattle.scan.proofs.Laws.{stop-room, scan-stops, scan-visits, scan-ends, parts}
-use Prim.Native.Nat.{◌<◌}
-use lib.ListN.{length}
+use mathlib.Core.Path.{◌≡◌, refl, sym, ◌∙◌}
+use mathlib.Core.Bool.{Bool, false}
+use Prim.Native.Nat.{ℕ, ◌≤◌, ◌<◌}
 use native.Mathlib.Omega.{arith}
-use mathlib.Core.Path.{sym, ◌∙◌}
+use borrow.Author.Tests.{lt-leb, le-leb}
+use Rattle.std.proofs.Common.{Some}
+use Rattle.std.proofs.lemmas.Grind.{common_steps}
+use Rattle.refusals.specs.declared.Ending.TheVariants.{Interrupted}
+use Rattle.scan.specs.Scan.{stop_code, Stops}
+use Rattle.scan.specs.declared.Scan.{Scan}
+use Rattle.scan.proofs.Laws.{stop-room, scan-stops, scan-visits, scan-ends, parts, and-false}
 use Rattle.scan.proofs.scan_part.Goals.{then-listed, else-listed}
 use Rattle.scan.proofs.scan_part.Goals as goal
 
-pub returns-in-Some : goal.returns-in-Some
-returns-in-Some c =
-    let e =
-    sym (scan-stops _ _ _ _ _ _ _ _ _ c.loop-i-test.true c.load-words.ensures c.is_blocked.ensures c.is_listed-listed.ensures _ c.in-Some.ensures)
-    ∙ c.loop-i.invariant in
+-- the budget is asked first
+spent : (scan : Scan) (b l : Bool) (i put room : ℕ) → scan.budget ≤ i → Stops (stop_code scan b l i put room) (Some Interrupted)
+unfolding stop_code
+spent scan b l i put room h = rw (le-leb _ _ h) (refl, refl)
+
+-- and with some left
+passed : (scan : Scan) (i put room : ℕ) → i < scan.budget → stop_code scan false false i put room ≡ 0
+unfolding stop_code
+passed scan i put room h = rw (lt-leb _ _ h, and-false scan.checking)
+
+pub returns-then-i-scan : goal.returns-then-i-scan
+returns-then-i-scan g c =
+    let words = g.T.Form.words in
+    let a = c.args in
+    let all = parts (sym (scan-stops _ a.scan c.loop-i.i c.loop-i.put (words c.loop-i.part) (words c.loop-i.list) _ _ _ c.loop-i-test.true refl refl refl Interrupted
+    (spent a.scan _ _ c.loop-i.i c.loop-i.put _ c.if-i-scan.true))
+    ∙ c.loop-i.invariant) in
     record {
-      value = (parts e).0;
-      part_after = (parts e).1.0;
-      list_after = (parts e).1.1;
+      value = all.0;
+      part_after = all.1.0;
+      list_after = all.1.1;
     }
 
-pub visit-requires : goal.visit-requires
-visit-requires c = (omega arith, stop-room _ _ _ _ _ _ c.in_default.ensures c.if-listed.true)
+pub loop-i-preserved-then-not-blocked-listed : goal.loop-i-preserved-then-not-blocked-listed
+loop-i-preserved-then-not-blocked-listed g c =
+    let words = g.T.Form.words in
+    let a = c.args in
+    let unblocked : c.is_blocked-blocked.result ≡ false = grind (arith, common_steps) in
+    let unlisted : c.is_listed-listed.result ≡ false = grind (arith, common_steps) in
+    sym (scan-visits _ a.scan c.loop-i.i c.loop-i.put (words c.loop-i.part) (words c.loop-i.list) c.load-words.result false false c.loop-i-test.true
+    c.load-words.ensures (sym unblocked ∙ c.is_blocked-blocked.ensures) (sym unlisted ∙ c.is_listed-listed.ensures)
+    (passed a.scan c.loop-i.i c.loop-i.put _ c.if-i-scan.false))
+    ∙ c.loop-i.invariant
+
+pub returns-in-Some : goal.returns-in-Some
+returns-in-Some g c =
+    let words = g.T.Form.words in
+    let a = c.args in
+    let all = parts (sym (scan-stops _ a.scan c.loop-i.i c.loop-i.put (words c.loop-i.part) (words c.loop-i.list) _ _ _ c.loop-i-test.true c.load-words.ensures
+    c.is_blocked-blocked.ensures c.is_listed-listed.ensures c.in-Some.ending (rw c.len.ensures at c.in-Some.ensures))
+    ∙ c.loop-i.invariant) in
+    record {
+      value = all.0;
+      part_after = all.1.0;
+      list_after = all.1.1;
+    }
 
 pub overflow_add-put : goal.overflow_add-put
-overflow_add-put c =
-    let room : c.loop-i.put < length c.loop-i.list = stop-room _ _ _ _ _ _ c.in_default.ensures c.if-listed.true in
+overflow_add-put g c =
+    let room : c.loop-i.put < c.len.result = stop-room _ _ _ _ _ _ c.in_default.ensures c.if-listed.true in
     search rules
 
 pub loop-i-preserved : goal.loop-i-preserved
-loop-i-preserved c =
+loop-i-preserved g c =
+    let words = g.T.Form.words in
     let e =
-    sym (scan-visits _ _ _ _ _ _ _ _ _ c.loop-i-test.true c.load-words.ensures c.is_blocked.ensures c.is_listed-listed.ensures c.in_default.ensures)
+    sym (scan-visits _ c.args.scan c.loop-i.i c.loop-i.put (words c.loop-i.part) (words c.loop-i.list) _ _ _ c.loop-i-test.true c.load-words.ensures
+    c.is_blocked-blocked.ensures c.is_listed-listed.ensures (rw c.len.ensures at c.in_default.ensures))
     ∙ c.loop-i.invariant in
     elim c.if-listed.branch [
       | then-listed w ↦ rw (w.put-is, w.part-is, w.list-is, w.visit.ensures.part_after, w.visit.ensures.list_after) (rw w.if-listed.true at e)
@@ -38,10 +80,11 @@ loop-i-preserved c =
     ]
 
 pub returns : goal.returns
-returns c =
-    let e = sym (scan-ends _ _ _ _ _ _ _ c.loop-i.auto.i-end c.loop-i-test.false c.end.ensures) ∙ c.loop-i.invariant in
+returns g c =
+    let all = parts (sym (scan-ends _ _ _ _ _ _ _ c.loop-i.auto.i-end c.loop-i-test.false c.end.ensures)
+    ∙ c.loop-i.invariant) in
     record {
-      value = (parts e).0;
-      part_after = (parts e).1.0;
-      list_after = (parts e).1.1;
+      value = all.0;
+      part_after = all.1.0;
+      list_after = all.1.1;
     }

@@ -5,4 +5,4 @@ use Rattle.table.proofs.Laws.{first-some}
 use Rattle.table.proofs.has.Goals as goal
 
 pub returns : goal.returns
-returns c = rw c.find.ensures at c.is_some.ensures ∙ first-some (sought c.args.k) c.args.table.now
+returns g c = rw c.find.ensures at c.is_some.ensures ∙ first-some (sought c.args.k) (g.T.Form.words c.args.table.now)

@@ -5,4 +5,4 @@ use mathlib.Core.Path.{◌≡◌}
 use Rattle.table.proofs.sweep_all.Given as goal
 
 abbrev pub invariant-loop-i : goal.invariant-loop-i
-invariant-loop-i l = l.table ≡ sweep_first (on_words (swept_by l.k)) l.i l.initial.table
+invariant-loop-i g l = g.T.Form.words l.table ≡ sweep_first (on_words (swept_by l.k)) l.i (g.T.Form.words l.initial.table)

@@ -1,5 +1,6 @@
 -- In the layouts what is left is by the code (`new-left`), and else 40.
-use mathlib.Core.Path.{◌∙◌}
+use mathlib.Core.Path.{◌≡◌, ◌∙◌}
+use lib.ListN.{length, replicate}
 use borrow.Author.Rules.{rules}
 use borrow.Author.Tests.{eq-eqb}
 use Rattle.refusals.proofs.Laws.{number-pos}
@@ -36,8 +37,9 @@ returns c =
     let chunk = rw c.in_ok-session.ensures.ok_part at c.as_mut_array.ensures.cases in
     let left = new-left a.created a.session.now a.table.now (rw (eq-eqb _ _ chunk.long, ← c.is_table.ensures) c.if-not-is_table.false) in
     let done = rw (← c.in_ok-allow_new.ensures) at left in
+    let zeros : c.fill.new.self ≡ replicate (length a.table.now) 0 = search rules in
     record {
       value = done.0;
       session_after = rw c.new_session-made.ensures at c.put_session.ensures ∙ done.1.0;
-      table_after = c.clear.ensures ∙ done.1.1;
+      table_after = zeros ∙ done.1.1;
     }

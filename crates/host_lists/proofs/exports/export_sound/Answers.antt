@@ -1,4 +1,5 @@
 -- A refusal is that of the tests (`coded`); past them there is the run in its place (`export-ran`).
+use Rattle.std.specs.Prelude.{Option}
 use Rattle.std.proofs.Common.{rules, get_or, Fits, w8}
 use mathlib.Core.Path.{◌≡◌, refl, sym, ap, ◌∙◌}
 use mathlib.Core.Bool.{true, ◌&&◌}
@@ -15,7 +16,7 @@ use Rattle.refusals.proofs.Laws.{and_left, and_right}
 use Rattle.session.specs.Session.{moving, work_of}
 use Rattle.session.specs.Formed.{gated, behind, last_entry}
 use Rattle.session.specs.declared.Session.{Session}
-use Rattle.session.specs.declared.streams.Work.{Work}
+use Rattle.session.specs.declared.streams.Interruption.{Interruption}
 use Rattle.lists.specs.Run.{standing}
 use Rattle.lists.specs.declared.runs.Progress.{Progress}
 use Rattle.lists.proofs.Laws.{run-bounds}
@@ -49,7 +50,7 @@ module _ (s t l b : List ℕ) (stream resume info : ℕ) where
   told = behind (gate_for moving lent_in) asks
 
   -- the code is theirs
-  coded : (gate created : ℕ) (work : Work) (x : Info) (code : ℕ) →
+  coded : (gate created : ℕ) (work : Option Interruption) (x : Info) (code : ℕ) →
       gate ≡ export_gate s (is_list (length l) && is_list (length b) && leb resume 1) → created ≡ read.fixed.created → work ≡ work_of read stream →
       x ≡ info_of info → code ≡ behind gate (export_asks created work (length l / 8) (length b / 8) stream (eqb resume 1) x) → told ≡ code
   coded gate created work x code g k w i e = sym (rw (words-length l, words-length b, ← i, ← w, ← k, ← g) e)
@@ -78,7 +79,7 @@ record Goes (at : Progress) (last : ℕ) : Type 0 where
   pub filled : at.filled ≤ at.next
   pub short : last ≤ last_entry
 
-goes : (entries room : ℕ) (run : Work) (x y : Info) (at : Progress) → Ready entries room run x → at ≡ begun_by run → y ≡ x → Goes at y.last
+goes : (entries room : ℕ) (run : Option Interruption) (x y : Info) (at : Progress) → Ready entries room run x → at ≡ begun_by run → y ≡ x → Goes at y.last
 goes entries room run x y at ready from same =
     let next = ap (λ (p : Progress). p.next) from in
     let last = ap (λ (i : Info). i.last) same in

@@ -8,7 +8,8 @@ use Rattle.lists.proofs.Laws.{run-spent, run_end, run_step, returned, counts_ste
 use Rattle.lists.proofs.runs.run_entries.Goals as goal
 
 pub loop-preserved : goal.loop-preserved
-loop-preserved c = let here = standing c.loop.at c.loop.table c.loop.list c.loop.buffer in
+loop-preserved g c = let words = g.T.Form.words in
+    let here = standing c.loop.at (words c.loop.table) (words c.loop.list) (words c.loop.buffer) in
     let args = c.args in
     let f = taken_by args.kind args.g in
     let more : c.loop.at.next ≤ args.last = omega (arith, c.if-last-at.false) in (
@@ -19,7 +20,7 @@ loop-preserved c = let here = standing c.loop.at c.loop.table c.loop.list c.loop
     )
 
 pub returns-then-last-at : goal.returns-then-last-at
-returns-then-last-at c =
+returns-then-last-at g c =
     let all = (returned (sym (run_end _ _ _ _ c.if-last-at.true) ∙ c.loop.invariant.2)) in
     record {
       value = all.0;
@@ -29,7 +30,7 @@ returns-then-last-at c =
     }
 
 pub returns-after-loop : goal.returns-after-loop
-returns-after-loop c =
+returns-after-loop g c =
     let all = (returned (sym (run-spent _ _ _ _ _ (omega (arith, c.loop-test.false))) ∙ c.loop.invariant.2)) in
     record {
       value = all.0;

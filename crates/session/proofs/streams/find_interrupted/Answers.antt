@@ -5,6 +5,7 @@ use mathlib.Core.Path.{◌≡◌, ap, ◌∙◌}
 use Rattle.session.specs.Session.{stream_places}
 use Rattle.session.specs.Formed.{busy}
 use Rattle.session.specs.declared.streams.Found.{Found}
+use Rattle.session.proofs.FormedLaws.{some-runs}
 use Rattle.session.proofs.streams.find_interrupted.Goals as goal
 use Rattle.session.proofs.streams.find_interrupted.Invariants.{found_below}
 
@@ -15,7 +16,8 @@ loop-i-preserved c = let found = c.loop-i.invariant in
       ap (λ (x : Found). x.any) found,
       ap (λ (x : Found). x.outside) found,
       ap (λ (x : Found). x.unusable) found,
-      c.is_resting-resting.ensures,
+      c.is_some-interrupted.ensures,
+      some-runs,
       c.is_in_range.ensures,
       c.is_usable.ensures,
     )
