@@ -125,19 +125,18 @@ pub fn scan_part<T: Form>(part: &mut [T::Unit], list: &mut [T::Unit], scan: Scan
         let words = T::load(part, i);
         let blocked = queries::is_blocked(words);
         let listed = looks::is_listed(words);
-        if !(blocked | listed) {
-            continue;
-        }
-        if let Some(ending) = stop(scan, blocked, listed, i, put, T::len(list)) {
-            return Scanned {
-                ending,
-                next: scan.first + i,
-                put,
-            };
-        }
-        if listed {
-            visit::<T>(part, list, scan, i, put, words);
-            put += 1;
+        if blocked | listed {
+            if let Some(ending) = stop(scan, blocked, listed, i, put, T::len(list)) {
+                return Scanned {
+                    ending,
+                    next: scan.first + i,
+                    put,
+                };
+            }
+            if listed {
+                visit::<T>(part, list, scan, i, put, words);
+                put += 1;
+            }
         }
     }
     Scanned {

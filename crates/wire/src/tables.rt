@@ -59,7 +59,7 @@ impl Form for InBytes {
 
     // The list is of bytes: `get` would find one of them, and not a word.
     fn word(list: &[u8], at: usize) -> u64 {
-        if at < list.len() / 8 {
+        if at < Self::len(list) {
             bytes::number(list, at)
         } else {
             0

@@ -12,7 +12,7 @@ use Rattle.refusals.specs.declared.Ending.TheVariants.{Interrupted}
 use Rattle.scan.specs.Scan.{stop_code, Stops}
 use Rattle.scan.specs.declared.Scan.{Scan}
 use Rattle.scan.proofs.Laws.{stop-room, scan-stops, scan-visits, scan-ends, parts, and-false}
-use Rattle.scan.proofs.scan_part.Goals.{then-listed, else-listed}
+use Rattle.scan.proofs.scan_part.Goals.{then-blocked-listed+in_default+then-listed, then-blocked-listed+in_default+else-listed, else-blocked-listed}
 use Rattle.scan.proofs.scan_part.Goals as goal
 
 -- the budget is asked first
@@ -38,17 +38,6 @@ returns-then-i-scan g c =
       list_after = all.1.1;
     }
 
-pub loop-i-preserved-then-not-blocked-listed : goal.loop-i-preserved-then-not-blocked-listed
-loop-i-preserved-then-not-blocked-listed g c =
-    let words = g.T.Form.words in
-    let a = c.args in
-    let unblocked : c.is_blocked-blocked.result ≡ false = grind (arith, common_steps) in
-    let unlisted : c.is_listed-listed.result ≡ false = grind (arith, common_steps) in
-    sym (scan-visits _ a.scan c.loop-i.i c.loop-i.put (words c.loop-i.part) (words c.loop-i.list) c.load-words.result false false c.loop-i-test.true
-    c.load-words.ensures (sym unblocked ∙ c.is_blocked-blocked.ensures) (sym unlisted ∙ c.is_listed-listed.ensures)
-    (passed a.scan c.loop-i.i c.loop-i.put _ c.if-i-scan.false))
-    ∙ c.loop-i.invariant
-
 pub returns-in-Some : goal.returns-in-Some
 returns-in-Some g c =
     let words = g.T.Form.words in
@@ -70,13 +59,25 @@ overflow_add-put g c =
 pub loop-i-preserved : goal.loop-i-preserved
 loop-i-preserved g c =
     let words = g.T.Form.words in
-    let e =
-    sym (scan-visits _ c.args.scan c.loop-i.i c.loop-i.put (words c.loop-i.part) (words c.loop-i.list) _ _ _ c.loop-i-test.true c.load-words.ensures
-    c.is_blocked-blocked.ensures c.is_listed-listed.ensures (rw c.len.ensures at c.in_default.ensures))
-    ∙ c.loop-i.invariant in
-    elim c.if-listed.branch [
-      | then-listed w ↦ rw (w.put-is, w.part-is, w.list-is, w.visit.ensures.part_after, w.visit.ensures.list_after) (rw w.if-listed.true at e)
-      | else-listed w ↦ rw (w.put-is, w.part-is, w.list-is) (rw w.if-listed.false at e)
+    let was = c.loop-i in
+    let scan = c.args.scan in
+    elim c.if-blocked-listed.branch [
+      | then-blocked-listed+in_default+then-listed w ↦
+          let e = sym (scan-visits _ scan was.i was.put (words was.part) (words was.list) _ _ _ c.loop-i-test.true c.load-words.ensures
+          c.is_blocked-blocked.ensures c.is_listed-listed.ensures (rw w.len.ensures at w.in_default.ensures)) ∙ was.invariant in
+          rw (w.put-is, w.part-is, w.list-is, w.visit.ensures.part_after, w.visit.ensures.list_after) (rw w.if-listed.true at e)
+      | then-blocked-listed+in_default+else-listed w ↦
+          let e = sym (scan-visits _ scan was.i was.put (words was.part) (words was.list) _ _ _ c.loop-i-test.true c.load-words.ensures
+          c.is_blocked-blocked.ensures c.is_listed-listed.ensures (rw w.len.ensures at w.in_default.ensures)) ∙ was.invariant in
+          rw (w.put-is, w.part-is, w.list-is) (rw w.if-listed.false at e)
+      | else-blocked-listed w ↦
+          let no = w.if-blocked-listed.false in
+          let unblocked : c.is_blocked-blocked.result ≡ false = grind (arith, common_steps) in
+          let unlisted : c.is_listed-listed.result ≡ false = grind (arith, common_steps) in
+          rw (w.put-is, w.part-is, w.list-is)
+          (sym (scan-visits _ scan was.i was.put (words was.part) (words was.list) c.load-words.result false false c.loop-i-test.true
+          c.load-words.ensures (sym unblocked ∙ c.is_blocked-blocked.ensures) (sym unlisted ∙ c.is_listed-listed.ensures)
+          (passed scan was.i was.put _ c.if-i-scan.false)) ∙ was.invariant)
     ]
 
 pub returns : goal.returns
