@@ -211,7 +211,7 @@ fn scan_answer(outcome: Result<Scanned, Refusal>) -> ChirpScanAnswer
     }
 }
 
-fn export_answer(outcome: Result<export::Ended, Refusal>) -> ChirpExportAnswer
+fn export_answer(outcome: Result<exports::Sent, Refusal>) -> ChirpExportAnswer
     ensures { result ≡ export_to_c (export_numbers outcome) }
 {
     match outcome {

@@ -4,12 +4,12 @@
 
 ghost use Rattle.std.specs.Prelude.{◌≡◌, ◌+◌, ◌≤◌};
 ghost use Rattle.refusals.specs.Refusals.{first_of, code_of};
-ghost use Rattle.session.specs.Formed.{last_entry};
+ghost use Rattle.session.specs.Formed.{behind, last_entry};
 ghost use Rattle.export.specs.Export.{resumable, export_asks, begun_by, mac_pages, end_of, ended_by, export_answer_of, export_out};
 
 use lists::runs::Progress;
 use lists::{Kind, runs};
-use refusals::{Ending, Refusal};
+use refusals::{Ending, Refusal, told};
 use session::changes::Change;
 use session::streams::Interruption;
 use session::{Session, When, changes, streams};
@@ -65,6 +65,23 @@ pub fn allow_export(
         return Err(Refusal::OperandInvalid); // after 44
     }
     Ok(())
+}
+
+// The same told the code of its gate, for whoever holds that in place of a `Result`.
+pub fn export_code(
+    gate: u64,
+    created: u64,
+    work: Option<Interruption>,
+    entries: usize,
+    room: usize,
+    stream: u64,
+    resume: bool,
+    x: Info,
+) -> u64
+    ensures { result ≡ behind gate (export_asks created work entries room stream resume x) }
+{
+    let outcome = allow_export(created, work, entries, room, stream, resume, x);
+    told(gate, outcome)
 }
 
 // Where a call on the stream goes on.

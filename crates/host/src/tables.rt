@@ -15,6 +15,8 @@ use wire::sessions;
 use wire::sessions::SESSION_BYTES;
 use wire::tables::InBytes;
 
+// Put into each function that C calls, where `k` is known: one for all of them would ask it at each call.
+#[inline(always)]
 pub fn on_session(k: Alone, session: &mut [u8], table: &[u8]) -> Result<(), Refusal>
     ensures value { code_of result ≡ (host_of (OnSession k) (lent session.old table.now)).answer.code }
     ensures session_after { session.new ≡ (host_of (OnSession k) (lent session.old table.now)).session }

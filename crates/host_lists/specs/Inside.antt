@@ -7,8 +7,8 @@ use Rattle.session.specs.Session.{moving}
 use Rattle.session.specs.Formed.{phase_tests}
 use Rattle.scan.specs.Scan.{Scanned, scanned_of, written_of}
 use Rattle.scan.specs.declared.Scanned as scanning
-use Rattle.export.specs.Export.{Ended, end_of}
-use Rattle.export.specs.declared.Ended as exporting
+use Rattle.export.specs.Export.{Ended}
+use Rattle.host_lists.specs.declared.exports.Sent as exporting
 use Rattle.restore.specs.declared.Ended as restoring
 use Rattle.wire.specs.Bytes.{words_of}
 use Rattle.wire.specs.Sessions.{session_of}
@@ -30,8 +30,9 @@ abbrev pub scan_numbers : Result scanning.Scanned Refusal → Numbers
 scan_numbers (Ok g) = scanned_numbers (scanned_of g)
 scan_numbers (Err r) = code_alone (number_of r)
 
-abbrev pub export_numbers : Result exporting.Ended Refusal → Numbers
-export_numbers (Ok e) = ended_numbers (end_of e)
+abbrev pub export_numbers : Result exporting.Sent Refusal → Numbers
+export_numbers (Ok e) =
+    record { code = ending_number e.ending; page = 0; next = 0; first = 0; last = 0; info = e.info; errors = e.errors; buffers = e.buffers }
 export_numbers (Err r) = code_alone (number_of r)
 
 abbrev pub restore_numbers : Result restoring.Ended Refusal → Numbers

@@ -6,16 +6,24 @@ ghost use Rattle.host.specs.Host.{Lent, lent_all, Left, host_of, is_list};
 ghost use Rattle.host.specs.Inside.{sound};
 ghost use Rattle.host_lists.specs.Inside.{export_gate, export_numbers};
 
-use export::Ended;
 use host::reads;
 use in_place::runs;
 use lists::Kind;
-use refusals::Refusal;
+use refusals::{Ending, Refusal};
 use session::When;
 use session::changes::Change;
 use wire::sessions;
 use wire::sessions::SESSION_BYTES;
 use words::infos::Info;
+
+// What an export tells that is not refused; what its stream does is in the session's bytes.
+#[derive(Clone, Copy)]
+pub struct Sent {
+    pub ending: Ending,
+    pub info: u64,
+    pub errors: u64,
+    pub buffers: u64,
+}
 
 // Past 40: 41, and 42 of what is no list, no buffer or no resume.
 fn gate_at(
@@ -45,7 +53,7 @@ fn export_sound(
     resume: u64,
     info: u64,
     budget: u64,
-) -> Result<Ended, Refusal>
+) -> Result<Sent, Refusal>
     requires { sound session.old (length table.old) ≡ true }
     ensures value { export_numbers result ≡ (host_of (Export stream (eqb resume 1) info budget)
         (lent_all session.old table.old list.old buffer.old resume)).answer }
@@ -82,7 +90,12 @@ fn export_sound(
             work: after,
         },
     );
-    Ok(ended)
+    Ok(Sent {
+        ending: ended.ending,
+        info: ended.info,
+        errors: ended.errors,
+        buffers: ended.buffers,
+    })
 }
 
 pub fn export(
@@ -94,7 +107,7 @@ pub fn export(
     resume: u64,
     info: u64,
     budget: u64,
-) -> Result<Ended, Refusal>
+) -> Result<Sent, Refusal>
     ensures value { export_numbers result ≡ (host_of (Export stream (eqb resume 1) info budget)
         (lent_all session.old table.old list.old buffer.old resume)).answer }
     ensures session_after { session.new ≡ (host_of (Export stream (eqb resume 1) info budget)

@@ -10,7 +10,7 @@ ghost use Rattle.memory.specs.Memory.{new_code, new_out, turn_tests, page_turn, 
 
 use page::moves::Move;
 use page::{Clock, PageWords, moves, queries};
-use refusals::Refusal;
+use refusals::{Refusal, code_of};
 use session::{Phase, Session};
 
 // What New asks, of a table of that length.
@@ -82,6 +82,25 @@ pub fn on_words(
 {
     allow_turn(m, phase, pages, clock, at, w)?;
     Ok(moves::move_words(m, w, clock))
+}
+
+// What a call on one page comes to: its code, and the words that the move makes of the page, whatever the code is.
+#[derive(Clone, Copy)]
+pub struct Turn {
+    pub code: u64,
+    pub words: PageWords,
+}
+
+// The same as `on_words`, in a code, with the words also of a call that is refused.
+#[tactic(auto, unfolding(crate::specs::Memory::page_turn))]
+pub fn turn_told(m: Move, phase: Phase, pages: usize, clock: Clock, at: usize, w: PageWords) -> Turn
+    ensures code { result.code ≡ (page_turn m phase pages clock at w).code }
+    ensures words { result.words ≡ (page_turn m phase pages clock at w).words }
+{
+    Turn {
+        code: code_of(allow_turn(m, phase, pages, clock, at, w)),
+        words: moves::move_words(m, w, clock),
+    }
 }
 
 // The session stays.

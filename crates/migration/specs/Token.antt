@@ -12,6 +12,8 @@ use Rattle.session.specs.declared.changes.Change.{Change}
 use Rattle.session.specs.declared.changes.Change.TheVariants.{Nothing, ToPhase}
 use Rattle.migration.specs.declared.token.Obstacle.{Obstacle}
 use Rattle.migration.specs.declared.token.Obstacle.TheVariants as obstacle
+use Rattle.migration.specs.declared.token.Token as told
+use Rattle.migration.specs.declared.token.Token.TheVariants as named
 
 pub data Token : Type 0 where
   Granted : Token
@@ -91,6 +93,12 @@ token_found None None = Granted
 unfoldable pub token_told : ℕ → ℕ → ℕ → ℕ → Token
 token_told gate pages first53 first54 =
     cond (not (eqb gate codes.done)) (Refused gate) (token_found (found pages first53) (found pages first54))
+
+-- the case that code's own names, with the same numbers
+abbrev pub token_named : told.Token → Token
+token_named named.Granted = Granted
+token_named (named.Refused code) = Refused code
+token_named (named.InTheWay code page) = InTheWay code page
 
 -- and what it changes: Done where it is granted
 abbrev pub token_change : Token → Change

@@ -11,7 +11,7 @@ use page::Clock;
 use page::queries::Sought;
 use page::sweeps::Sweep;
 use refusals::Refusal;
-use session::changes::Change;
+use session::changes::{Change, Verdict};
 use session::{Phase, Session, When, changes};
 use table::{Form, InWords};
 
@@ -86,6 +86,15 @@ pub fn sweep_verdict(k: Sweep, clock: Clock, busy: bool, stops: bool) -> Result<
     }
 }
 
+// The same told the code of its gate, for whoever holds that in place of a `Result`.
+#[tactic(auto, unfolding(crate::specs::Migration::sweep_verdict))]
+pub fn sweep_told(k: Sweep, gate: u64, clock: Clock, busy: bool, stops: bool) -> Verdict
+    ensures code { result.code ≡ (sweep_verdict k gate clock busy stops).code }
+    ensures change { result.change ≡ (sweep_verdict k gate clock busy stops).change }
+{
+    changes::told(gate, sweep_verdict(k, clock, busy, stops))
+}
+
 pub fn on_all(k: Sweep, s: Session, table: &mut [u64]) -> Result<Session, Refusal>
     ensures value { answer_of s result ≡ (on_all k s table.old).answer }
     ensures table_after { table.new ≡ (on_all k s table.old).table }
@@ -139,6 +148,15 @@ pub fn alone_verdict(k: Alone, epoch: u64, busy: bool) -> Result<Change, Refusal
             epoch: 0,
         }),
     }
+}
+
+// The same told the code of its gate.
+#[tactic(auto, unfolding(crate::specs::Migration::alone_verdict))]
+pub fn alone_told(k: Alone, gate: u64, epoch: u64, busy: bool) -> Verdict
+    ensures code { result.code ≡ (alone_verdict k gate epoch busy).code }
+    ensures change { result.change ≡ (alone_verdict k gate epoch busy).change }
+{
+    changes::told(gate, alone_verdict(k, epoch, busy))
 }
 
 pub fn on_session(k: Alone, s: Session, len: usize) -> Result<Session, Refusal>

@@ -3,12 +3,13 @@ ghost use Rattle.std.specs.Prelude.{◌≡◌};
 ghost use Rattle.refusals.specs.Refusals.{first_of, code_of};
 ghost use Rattle.page.specs.Page.{gives53, gives54};
 ghost use Rattle.table.specs.Table.{first_page};
+ghost use Rattle.session.specs.Formed.{behind};
 ghost use Rattle.migration.specs.declared.token.Obstacle.TheVariants as obstacle;
 ghost use Rattle.migration.specs.Token.{Granted, token_says, token_of, token_answer_of};
-ghost use Rattle.migration.specs.Token.{token_asks, token_code, in_the_way, token_out, token_found, token_change};
+ghost use Rattle.migration.specs.Token.{token_asks, token_code, in_the_way, token_out, token_found, token_named, token_told, token_change};
 
 use page::queries::Sought;
-use refusals::Refusal;
+use refusals::{Refusal, told};
 use session::changes::Change;
 use session::{Phase, Session, When, changes};
 use table::{Form, InWords};
@@ -41,6 +42,13 @@ pub fn allow_token(busy: bool, complete: bool) -> Result<(), Refusal>
     Ok(())
 }
 
+// The same told the code of the gate, for whoever holds that in place of a `Result`.
+pub fn token_gate(gate: u64, busy: bool, complete: bool) -> u64
+    ensures { result ≡ behind gate (token_asks busy complete) }
+{
+    told(gate, allow_token(busy, complete))
+}
+
 // What the token is by the table: `first53` is the lowest page that gives 53, and where there is none, `first54` the lowest that gives 54.
 pub fn token_of(first53: Option<usize>, first54: Option<usize>) -> Result<(), Obstacle>
     ensures { token_of result ≡ token_found first53 first54 }
@@ -58,6 +66,38 @@ pub fn token_of(first53: Option<usize>, first54: Option<usize>) -> Result<(), Ob
     }
 }
 
+// What the token is, in codes.
+#[derive(Clone, Copy)]
+pub enum Token {
+    Granted,
+    Refused { code: u64 },
+    // The lowest page that is in the way.
+    InTheWay { code: u64, page: usize },
+}
+
+// The same as `token_of` told a code, that of what stands before the table, and of `pages` pages where each search ended: at the page count where there is none.
+#[tactic(auto, unfolding(crate::specs::Token::token_told))]
+pub fn token_told(gate: u64, pages: usize, first53: usize, first54: usize) -> Token
+    ensures { token_named result ≡ token_told gate pages first53 first54 }
+{
+    if gate != 0 {
+        return Token::Refused { code: gate };
+    }
+    if first53 < pages {
+        return Token::InTheWay {
+            code: u64::from(Refusal::ExportedDirtyPagesRemain),
+            page: first53,
+        };
+    }
+    if first54 < pages {
+        return Token::InTheWay {
+            code: u64::from(Refusal::UnexportedMemoryRemains),
+            page: first54,
+        };
+    }
+    Token::Granted
+}
+
 // What a token that is granted changes in the session.
 pub fn granted() -> Change
     ensures { result ≡ token_change Granted }
@@ -65,7 +105,9 @@ pub fn granted() -> Change
     Change::ToPhase { phase: Phase::Done }
 }
 
-// What the token is by its pages. None is looked for that gives 54 where one gives 53.
+// What the token is by its pages. None is looked for that gives 54 where one gives 53. A function of its own to the compiler too: put into its caller, whose other
+// values take the registers, its loop has longer instructions and takes half as long again (docs/PERFORMANCE.md, 'Times').
+#[inline(never)]
 pub fn look<T: Form>(table: &[T::Unit]) -> Result<(), Obstacle>
     ensures { token_of result ≡ token_found (first_page gives53 (T.words table.now)) (first_page gives54 (T.words table.now)) }
 {

@@ -1,15 +1,17 @@
--- The laws of word 0 of a page record: those of every `Word`, at its seven runs.
-use mathlib.Core.Path.{◌≡◌, refl, ap₂}
-use mathlib.Core.Bool.{Bool}
+-- The laws of word 0 of a page record: those of every `Word`, at its seven runs; and the mask of the spare runs.
+use mathlib.Core.Path.{◌≡◌, refl, sym, ap, ap₂, ◌∙◌}
+use mathlib.Core.Bool.{Bool, true, false, ◌&&◌}
 use mathlib.Core.List.{List, [], ◌∷◌}
-use Prim.Native.Nat.{ℕ, ◌^◌, ◌<◌}
+use Prim.Native.Nat.{ℕ, zero, suc, ◌+◌, ◌*◌, ◌^◌, ◌<◌}
 use native.Mathlib.Omega.{arith}
-use lib.Dec.{eqb}
+use borrow.Author.Tests.{ne_eqb}
+use lib.Bits.{bit_and}
+use lib.Dec.{eqb, eqb-suc-zero}
 use lib.ListN.{get_or, set}
 use Rattle.words.specs.Runs.{bits, bit}
-use Rattle.records.specs.Record.{record_of, record_word, lowered, RecordFits, with_dirty, with_cached}
+use Rattle.records.specs.Record.{record_of, record_word, lowered, RecordFits, plain, with_dirty, with_cached}
 use Rattle.records.specs.declared.Record.{Record}
-use Rattle.words.proofs.Runs.{bits-lt, bit-lt, bit-low, flag-bit, bit-flag, split, join}
+use Rattle.words.proofs.Runs.{bits-lt, bit-lt, bit-low, flag-bit, bit-flag, split, join, ones, kept, and-join}
 use Rattle.words.proofs.Words.{Word, read-write, read-write-low, read-lowered, write_read, read_same, write-lt}
 
 abbrev pub widths : List ℕ
@@ -75,3 +77,21 @@ word-lowered = read-lowered word_zero
 
 pub record-lt : (p : Record) → record_word p < 2 ^ 64
 record-lt = write-lt word_zero
+
+-- ---- the mask of the spare runs
+
+abbrev spare_runs : List Bool
+spare_runs = false ∷ false ∷ false ∷ true ∷ false ∷ false ∷ true ∷ []
+
+-- two runs, each at its place, sum to 0 where both are 0
+both_zero : (a b : ℕ) → eqb (a * 2 ^ 10 + b * 2 ^ 48) 0 ≡ (eqb a 0 && eqb b 0)
+both_zero zero zero = refl
+both_zero zero (suc b) = ne_eqb (zero * 2 ^ 10 + suc b * 2 ^ 48) 0 (λ h. omega arith) ∙ sym (eqb-suc-zero b)
+both_zero (suc a) b =
+    ne_eqb (suc a * 2 ^ 10 + b * 2 ^ 48) 0 (λ h. omega arith) ∙ ap (λ (x : Bool). x && eqb b 0) (sym (eqb-suc-zero a))
+
+pub plain_code : (w : ℕ) → eqb (bit_and w (join 0 widths (ones widths spare_runs))) 0 ≡ plain (record_of w)
+unfolding record_of plain
+plain_code w =
+    let sum : join 0 widths (kept spare_runs (split 0 widths w)) ≡ bits w 15 10 * 2 ^ 10 + bits w 63 48 * 2 ^ 48 = omega arith in
+    ap (λ (m : ℕ). eqb m 0) (and-join widths spare_runs w ∙ sum) ∙ both_zero (bits w 15 10) (bits w 63 48)

@@ -3,7 +3,7 @@
 
 #![tactic(auto)]
 
-ghost use Rattle.std.specs.Prelude.{◌≡◌};
+ghost use Rattle.std.specs.Prelude.{◌≡◌, cond, eqb};
 ghost use Rattle.refusals.specs.Refusals.{number_of, ending_number, code_of};
 
 // Why a call is refused.
@@ -61,4 +61,14 @@ pub fn code_of(outcome: Result<(), Refusal>) -> u64
         Ok(()) => 0,
         Err(r) => u64::from(r),
     }
+}
+
+// The same told the code of what stands before the tests, which is answered where it is not 0.
+pub fn told(gate: u64, outcome: Result<(), Refusal>) -> u64
+    ensures { result ≡ cond (eqb gate 0) (code_of outcome) gate }
+{
+    if gate != 0 {
+        return gate;
+    }
+    code_of(outcome)
 }

@@ -4,11 +4,12 @@
 
 ghost use Rattle.std.specs.Prelude.{◌≡◌};
 ghost use Rattle.refusals.specs.Refusals.{first_of, code_of};
+ghost use Rattle.session.specs.Formed.{behind};
 ghost use Rattle.restore.specs.Restore.{restore_asks, begun_at, end_of, ended_at, list_answer_of, restore_out};
 
 use lists::runs::Progress;
 use lists::{Kind, runs};
-use refusals::{Ending, Refusal};
+use refusals::{Ending, Refusal, told};
 use session::{Session, When};
 use table::InWords;
 use words::infos::Info;
@@ -30,6 +31,13 @@ pub fn allow_restore(entries: usize, x: Info) -> Result<(), Refusal>
         return Err(Refusal::OperandInvalid);
     }
     Ok(())
+}
+
+// The same told the code of its gate, for whoever holds that in place of a `Result`.
+pub fn restore_code(gate: u64, entries: usize, x: Info) -> u64
+    ensures { result ≡ behind gate (restore_asks entries x) }
+{
+    told(gate, allow_restore(entries, x))
 }
 
 // Every call begins at FIRST.

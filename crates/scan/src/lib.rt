@@ -5,13 +5,14 @@
 ghost use Rattle.std.specs.Prelude.{◌≡◌, ◌+◌, ◌*◌, ◌≤◌, ◌<◌, length, set};
 ghost use Rattle.refusals.specs.Refusals.{first_of, ending_number, code_of};
 ghost use Rattle.page.specs.Page.{page_of, on_words};
-ghost use Rattle.table.specs.Table.{most_pages, page_count, put_at};
+ghost use Rattle.table.specs.Table.{most_pages, page_count, words_at, put_at};
+ghost use Rattle.session.specs.Formed.{behind};
 ghost use Rattle.scan.specs.Look.{listed_word, listed_page};
 ghost use Rattle.scan.specs.Scan.{stop_code, Stops, end_code, scanned_of, scan_run, range_run, written_of, answer_of, scan_answer_of, check_after};
 ghost use Rattle.scan.specs.Scan.{within_table, dscan_asks, dscan_out, dcheck_asks, dcheck_out};
 
 use page::{Clock, PageWords, queries};
-use refusals::{Ending, Refusal};
+use refusals::{Ending, Refusal, told};
 use session::changes::Change;
 use session::{Check, Session, When, changes, streams};
 use table::{Form, InWords};
@@ -84,6 +85,14 @@ pub fn end(checking: bool) -> Ending
     }
 }
 
+// The words of the page that the scan stands at, which the budget reaches: what it does not reach may not even be mapped.
+fn reached<T: Form>(part: &[T::Unit], scan: Scan, i: usize) -> PageWords
+    requires { i < scan.budget }
+    ensures { result ≡ words_at (T.words part.now) i }
+{
+    T::load(part, i)
+}
+
 // A page that is listed goes into the part, and its word into the list.
 fn visit<T: Form>(
     part: &mut [T::Unit],
@@ -101,8 +110,8 @@ fn visit<T: Form>(
     T::put(list, put, looks::listed_word(w, scan.first + i));
 }
 
-// The pages of a part of the table in turn. A page that the budget does not reach is not looked at: what a scan does not visit may not even be mapped. Most
-// pages are neither blocked nor listed, and are passed at once.
+// The pages of a part of the table in turn. A page that the budget does not reach is not looked at. Most pages are neither blocked nor listed, and are passed at
+// once.
 pub fn scan_part<T: Form>(part: &mut [T::Unit], list: &mut [T::Unit], scan: Scan) -> Scanned
     requires { scan.first + page_count (T.words part.old) ≤ most_pages }
     ensures value { scanned_of result ≡ (scan_run (page_count (T.words part.old)) scan 0 0
@@ -122,7 +131,7 @@ pub fn scan_part<T: Form>(part: &mut [T::Unit], list: &mut [T::Unit], scan: Scan
                 put,
             };
         }
-        let words = T::load(part, i);
+        let words = reached::<T>(part, scan, i);
         let blocked = queries::is_blocked(words);
         let listed = looks::is_listed(words);
         if blocked | listed {
@@ -220,6 +229,13 @@ pub fn allow_dscan(pages: usize, room: usize, first: usize, count: usize) -> Res
     Ok(())
 }
 
+// The same told the code of its gate, for whoever holds that in place of a `Result`.
+pub fn dscan_code(gate: u64, pages: usize, room: usize, first: usize, count: usize) -> u64
+    ensures { result ≡ behind gate (dscan_asks pages room first count) }
+{
+    told(gate, allow_dscan(pages, room, first, count))
+}
+
 // Scans `count` pages from page `first` on, and leaves the session as it was.
 pub fn dscan(
     s: Session,
@@ -263,6 +279,13 @@ pub fn allow_dcheck(check: Check, room: usize) -> Result<(), Refusal>
     Ok(())
 }
 
+// The same told the code of its gate.
+pub fn dcheck_code(gate: u64, check: Check, room: usize) -> u64
+    ensures { result ≡ behind gate (dcheck_asks check room) }
+{
+    told(gate, allow_dcheck(check, room))
+}
+
 // The check where the scan ended.
 pub fn check_after(got: Scanned) -> Check
     ensures { result ≡ check_after (scanned_of got) }
@@ -271,6 +294,17 @@ pub fn check_after(got: Scanned) -> Check
         place: got.next,
         complete: got.ending == Ending::CheckComplete,
         failed: got.ending == Ending::MemScanFailedBlockedRange,
+    }
+}
+
+// The same of any code that a scan may have ended with, a number that is none included.
+pub fn check_told(code: u64, next: usize) -> Check
+    ensures { result ≡ check_after (record { code = code; next = next; put = 0 }) }
+{
+    Check {
+        place: next,
+        complete: code == u64::from(Ending::CheckComplete),
+        failed: code == u64::from(Ending::MemScanFailedBlockedRange),
     }
 }
 

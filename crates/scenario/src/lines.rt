@@ -29,14 +29,14 @@ pub(crate) struct Line {
 }
 
 impl Line {
-    // A line of which nothing has been read.
-    pub(crate) fn new(alloc: Global) -> Line {
-        Line {
+    // A line of which nothing has been read. It has room for any word, so that none of the lines that follow asks for memory.
+    pub(crate) fn new(alloc: Global) -> Result<Line, AllocError> {
+        Ok(Line {
             part: Part::Blank,
-            word: String::new(alloc),
+            word: String::with_capacity(alloc, LONGEST)?,
             numbers: [0; NUMBERS],
             count: 0,
-        }
+        })
     }
 
     // Ends a number that is being read.
@@ -74,12 +74,17 @@ impl Line {
         Ok(())
     }
 
-    // What the line asks for, if that can be read: here it ends.
-    pub(crate) fn into_order(mut self) -> Option<Order> {
+    // What the line asks for, if that can be read: here it ends, and the next one begins.
+    pub(crate) fn end(&mut self) -> Option<Order> {
         self.end_number();
-        match self.part {
+        let order = match self.part {
             Part::Unreadable => None,
             _ => Order::of(self.word.as_str(), self.numbers),
-        }
+        };
+        self.part = Part::Blank;
+        self.word.clear();
+        self.numbers = [0; NUMBERS];
+        self.count = 0;
+        order
     }
 }

@@ -5,9 +5,10 @@ use mathlib.Core.Path.{◌≡◌, refl, sym, ap, ◌∙◌}
 use mathlib.Core.Logic.{⊎_elim}
 use mathlib.Core.Bool.{Bool, true, false, cond}
 use mathlib.Core.List.{List, [], ◌∷◌}
-use Prim.Native.Nat.{ℕ, zero, suc, ◌+◌, ◌*◌, ◌≤◌, ◌<◌}
+use Prim.Native.Nat.{ℕ, zero, suc, ◌+◌, ◌-◌, ◌*◌, ◌≤◌, ◌<◌}
 use native.Mathlib.Omega.{arith}
 use native.Mathlib.Nat.{eq-or-lt_of_le}
+use native.Mathlib.Numerals.{add-one}
 use lib.Dec.{ltb}
 use lib.ListN.{length, get_or, set, length-set}
 use lib.Seq.{get_or-set_same, get_or-set_other, set-get_or}
@@ -182,6 +183,22 @@ pub page-put : (f : Page → Page) (t : List ℕ) (i : ℕ) → i < page_count t
 page-put f t i h g = ap page_of (put_same t i (on_words f (words_at t i)) h) ∙ page_moved f (words_at t i) g
 
 -- ---- the lowest page of a kind
+
+-- the search from page i on, of n pages
+pub lowest-found : (f : Page → Bool) (n i : ℕ) (t : List ℕ) → i < n → f (page_at t i) ≡ true → lowest f (n - i) i t ≡ i
+lowest-found f n i t h e =
+    let more : n - i ≡ suc (n - (i + 1)) = omega arith in
+    rw (more, e)
+
+pub lowest-next : (f : Page → Bool) (n i : ℕ) (t : List ℕ) → i < n → f (page_at t i) ≡ false → lowest f (n - i) i t ≡ lowest f (n - (i + 1)) (i + 1) t
+lowest-next f n i t h e =
+    let more : n - i ≡ suc (n - (i + 1)) = omega arith in
+    rw (more, e, add-one i)
+
+pub lowest-end : (f : Page → Bool) (n i : ℕ) (t : List ℕ) → n ≤ i → lowest f (n - i) i t ≡ i
+lowest-end f n i t h =
+    let none : n - i ≡ 0 = omega arith in
+    rw none
 
 module _ (f : Page → Bool) (t : List ℕ) where
   -- below the lowest page there is none

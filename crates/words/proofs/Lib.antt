@@ -1,6 +1,8 @@
 pub mod Runs
 pub mod RunCode
 pub mod Words
+pub mod Masks
+pub mod MaskedWords
 pub mod EntryLaws
 pub mod InfoLaws
 pub mod ClassLaws

@@ -3,11 +3,12 @@
 use mathlib.Core.Path.{◌≡◌, refl, sym, ap, ap₂, ◌∙◌, subst}
 use mathlib.Core.Bool.{Bool, true, false}
 use mathlib.Core.List.{List, [], ◌∷◌}
-use Prim.Native.Nat.{ℕ, zero, suc, ◌+◌, ◌-◌, ◌*◌, ◌/◌, ◌%◌, ◌^◌, ◌<◌}
+use Prim.Native.Nat.{ℕ, zero, suc, ◌+◌, ◌-◌, ◌*◌, ◌/◌, ◌%◌, ◌^◌, ◌<◌, ◌≤◌}
 use native.Mathlib.Nat.{add_comm, add_assoc, add-zero, add-mul, mul_assoc, mul_comm, mul-one, zero-mul, div-one, mod-lt, mod-eq_of_lt, le_of_suc-le-suc}
 use native.Mathlib.Nat.{not-suc-le-zero}
 use native.Mathlib.Omega.{arith}
 use lib.Arith.{digits_lt, lt-one}
+use lib.Bits.{bit_and, bit_or, and_block, and_mask, and_zero_r, or_block, or_shifted, or_zero_r}
 use lib.Dec.{eqb, lit<}
 use lib.ListN.{drop, get_or, length, set}
 use lib.Pow.{high, ones_lt, pow-add, pow_pos, mod-pow-add, shr_lt, shr-shr}
@@ -151,6 +152,109 @@ join-split ks w h = whole-number ks (split 0 ks w) ∙ ap (number ks) (whole-dig
 
 pub join-lt : (ks xs : List ℕ) → Fit ks xs → join 0 ks xs < 2 ^ total ks
 join-lt ks xs f = subst (λ (m : ℕ). m < 2 ^ total ks) (sym (whole-number ks xs)) (number_lt ks xs f)
+
+-- ---- a mask of whole runs keeps those and clears the others
+
+abbrev pub ones : List ℕ → List Bool → List ℕ
+ones [] bs = []
+ones (k ∷ ks) [] = []
+ones (k ∷ ks) (true ∷ bs) = (2 ^ k - 1) ∷ ones ks bs
+ones (k ∷ ks) (false ∷ bs) = 0 ∷ ones ks bs
+
+abbrev pub kept : List Bool → List ℕ → List ℕ
+kept [] xs = []
+kept (b ∷ bs) [] = []
+kept (true ∷ bs) (x ∷ xs) = x ∷ kept bs xs
+kept (false ∷ bs) (x ∷ xs) = 0 ∷ kept bs xs
+
+-- a mask's lowest run and the rest of it
+and-digit : (k w m x : ℕ) → x < 2 ^ k → bit_and w (m * 2 ^ k + x) ≡ bit_and (w / 2 ^ k) m * 2 ^ k + bit_and (w % 2 ^ k) x
+and-digit k w m x h =
+    ap (λ (n : ℕ). bit_and n (m * 2 ^ k + x)) (sym (Pow.split w k)) ∙ and_block k (w / 2 ^ k) m (w % 2 ^ k) x (mod-lt w (pow_pos k)) h
+
+number-and : (ks : List ℕ) (bs : List Bool) (w : ℕ) → bit_and w (number ks (ones ks bs)) ≡ number ks (kept bs (digits ks w))
+unfolding digits number
+number-and [] bs w = and_zero_r w
+number-and (k ∷ ks) [] w = and_zero_r w
+number-and (k ∷ ks) (true ∷ bs) w =
+    and-digit k w (number ks (ones ks bs)) (2 ^ k - 1) (ones_lt k)
+    ∙ ap₂ (λ (m n : ℕ). m * 2 ^ k + n) (number-and ks bs (w / 2 ^ k)) (and_mask (w % 2 ^ k) k ∙ mod-eq_of_lt (mod-lt w (pow_pos k)))
+number-and (k ∷ ks) (false ∷ bs) w =
+    and-digit k w (number ks (ones ks bs)) 0 (pow_pos k) ∙ ap₂ (λ (m n : ℕ). m * 2 ^ k + n) (number-and ks bs (w / 2 ^ k)) (and_zero_r (w % 2 ^ k))
+
+and-number : (ks : List ℕ) (bs : List Bool) (w : ℕ) → bit_and w (join 0 ks (ones ks bs)) ≡ number ks (kept bs (digits ks w))
+and-number ks bs w = ap (bit_and w) (whole-number ks (ones ks bs)) ∙ number-and ks bs w
+
+pub and-join : (ks : List ℕ) (bs : List Bool) (w : ℕ) → bit_and w (join 0 ks (ones ks bs)) ≡ join 0 ks (kept bs (split 0 ks w))
+and-join ks bs w =
+    and-number ks bs w ∙ ap (λ (l : List ℕ). number ks (kept bs l)) (sym (whole-digits ks w)) ∙ sym (whole-number ks (kept bs (split 0 ks w)))
+
+-- ---- one run cleared, and a number put there
+
+abbrev every : List ℕ → List Bool
+every [] = []
+every (k ∷ ks) = true ∷ every ks
+
+-- every run but the i-th
+abbrev pub but : List ℕ → ℕ → List Bool
+but [] i = []
+but (k ∷ ks) zero = false ∷ every ks
+but (k ∷ ks) (suc i) = true ∷ but ks i
+
+digits-fit : (ks : List ℕ) (w : ℕ) → Fit ks (digits ks w)
+unfolding digits
+digits-fit [] w = tt
+digits-fit (k ∷ ks) w = (mod-lt w (pow_pos k), digits-fit ks (w / 2 ^ k))
+
+kept-every : (ks xs : List ℕ) → Fit ks xs → kept (every ks) xs ≡ xs
+kept-every [] [] f = refl
+kept-every [] (x ∷ xs) f = absurd f
+kept-every (k ∷ ks) [] f = absurd f
+kept-every (k ∷ ks) (x ∷ xs) f = ap (λ (l : List ℕ). x ∷ l) (kept-every ks xs f.1)
+
+kept_but : (ks xs : List ℕ) (i : ℕ) → Fit ks xs → kept (but ks i) xs ≡ set xs i 0
+kept_but [] [] i f = refl
+kept_but [] (x ∷ xs) i f = absurd f
+kept_but (k ∷ ks) [] i f = absurd f
+kept_but (k ∷ ks) (x ∷ xs) zero f = ap (λ (l : List ℕ). 0 ∷ l) (kept-every ks xs f.1)
+kept_but (k ∷ ks) (x ∷ xs) (suc i) f = ap (λ (l : List ℕ). x ∷ l) (kept_but ks xs i f.1)
+
+set-fit : (ks xs : List ℕ) (i : ℕ) {v : ℕ} → Fit ks xs → v < 2 ^ get_or ks i 0 → Fit ks (set xs i v)
+set-fit [] [] i f h = tt
+set-fit [] (x ∷ xs) i f h = absurd f
+set-fit (k ∷ ks) [] i f h = absurd f
+set-fit (k ∷ ks) (x ∷ xs) zero f h = (h, f.1)
+set-fit (k ∷ ks) (x ∷ xs) (suc i) f h = (f.0, set-fit ks xs i f.1 h)
+
+number-or : (ks xs : List ℕ) (i : ℕ) {v : ℕ} → Fit ks xs → i < length ks → v < 2 ^ get_or ks i 0
+    → bit_or (number ks (set xs i 0)) (v * 2 ^ place ks i) ≡ number ks (set xs i v)
+unfolding number
+number-or [] xs i f l h = absurd (not-suc-le-zero l)
+number-or (k ∷ ks) [] i f l h = absurd f
+number-or (k ∷ ks) (x ∷ xs) zero {v} f l h =
+    ap₂ bit_or (add-zero (number ks xs * 2 ^ k)) (mul-one v) ∙ or_shifted (number ks xs) k v h
+number-or (k ∷ ks) (x ∷ xs) (suc i) {v} f l h =
+    ap (bit_or (number ks (set xs i 0) * 2 ^ k + x))
+    (ap (λ (m : ℕ). v * m) (pow-add 2 (place ks i) k)
+    ∙ sym (mul_assoc v (2 ^ place ks i) (2 ^ k))
+    ∙ sym (add-zero (v * 2 ^ place ks i * 2 ^ k)))
+    ∙ or_block k (number ks (set xs i 0)) (v * 2 ^ place ks i) x 0 f.0 (pow_pos k)
+    ∙ ap₂ (λ (m n : ℕ). m * 2 ^ k + n) (number-or ks xs i f.1 (le_of_suc-le-suc l) h) (or_zero_r x)
+
+pub place-fits : (ks : List ℕ) (i : ℕ) → i < length ks → get_or ks i 0 + place ks i ≤ total ks
+place-fits [] i l = absurd (not-suc-le-zero l)
+place-fits (k ∷ ks) zero l = omega arith
+place-fits (k ∷ ks) (suc i) l = omega (arith, place-fits ks i (le_of_suc-le-suc l))
+
+pub put-split : (ks : List ℕ) (i w : ℕ) {v : ℕ} → i < length ks → v < 2 ^ get_or ks i 0
+    → split 0 ks (bit_or (bit_and w (join 0 ks (ones ks (but ks i)))) (v * 2 ^ place ks i)) ≡ set (split 0 ks w) i v
+put-split ks i w {v} l h =
+    whole-digits ks (bit_or (bit_and w (join 0 ks (ones ks (but ks i)))) (v * 2 ^ place ks i))
+    ∙ ap (λ (m : ℕ). digits ks (bit_or m (v * 2 ^ place ks i)))
+    (and-number ks (but ks i) w ∙ ap (number ks) (kept_but ks (digits ks w) i (digits-fit ks w)))
+    ∙ ap (digits ks) (number-or ks (digits ks w) i (digits-fit ks w) l h)
+    ∙ digits_number ks (set (digits ks w) i v) (set-fit ks (digits ks w) i (digits-fit ks w) h)
+    ∙ ap (λ (xs : List ℕ). set xs i v) (sym (whole-digits ks w))
 
 -- ---- two words whose runs are the same but one differ in that run's bits alone
 

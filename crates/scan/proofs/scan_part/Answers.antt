@@ -42,7 +42,7 @@ pub returns-in-Some : goal.returns-in-Some
 returns-in-Some g c =
     let words = g.T.Form.words in
     let a = c.args in
-    let all = parts (sym (scan-stops _ a.scan c.loop-i.i c.loop-i.put (words c.loop-i.part) (words c.loop-i.list) _ _ _ c.loop-i-test.true c.load-words.ensures
+    let all = parts (sym (scan-stops _ a.scan c.loop-i.i c.loop-i.put (words c.loop-i.part) (words c.loop-i.list) _ _ _ c.loop-i-test.true c.reached-words.ensures
     c.is_blocked-blocked.ensures c.is_listed-listed.ensures c.in-Some.ending (rw c.len.ensures at c.in-Some.ensures))
     ∙ c.loop-i.invariant) in
     record {
@@ -63,11 +63,11 @@ loop-i-preserved g c =
     let scan = c.args.scan in
     elim c.if-blocked-listed.branch [
       | then-blocked-listed+in_default+then-listed w ↦
-          let e = sym (scan-visits _ scan was.i was.put (words was.part) (words was.list) _ _ _ c.loop-i-test.true c.load-words.ensures
+          let e = sym (scan-visits _ scan was.i was.put (words was.part) (words was.list) _ _ _ c.loop-i-test.true c.reached-words.ensures
           c.is_blocked-blocked.ensures c.is_listed-listed.ensures (rw w.len.ensures at w.in_default.ensures)) ∙ was.invariant in
           rw (w.put-is, w.part-is, w.list-is, w.visit.ensures.part_after, w.visit.ensures.list_after) (rw w.if-listed.true at e)
       | then-blocked-listed+in_default+else-listed w ↦
-          let e = sym (scan-visits _ scan was.i was.put (words was.part) (words was.list) _ _ _ c.loop-i-test.true c.load-words.ensures
+          let e = sym (scan-visits _ scan was.i was.put (words was.part) (words was.list) _ _ _ c.loop-i-test.true c.reached-words.ensures
           c.is_blocked-blocked.ensures c.is_listed-listed.ensures (rw w.len.ensures at w.in_default.ensures)) ∙ was.invariant in
           rw (w.put-is, w.part-is, w.list-is) (rw w.if-listed.false at e)
       | else-blocked-listed w ↦
@@ -75,8 +75,8 @@ loop-i-preserved g c =
           let unblocked : c.is_blocked-blocked.result ≡ false = grind (arith, common_steps) in
           let unlisted : c.is_listed-listed.result ≡ false = grind (arith, common_steps) in
           rw (w.put-is, w.part-is, w.list-is)
-          (sym (scan-visits _ scan was.i was.put (words was.part) (words was.list) c.load-words.result false false c.loop-i-test.true
-          c.load-words.ensures (sym unblocked ∙ c.is_blocked-blocked.ensures) (sym unlisted ∙ c.is_listed-listed.ensures)
+          (sym (scan-visits _ scan was.i was.put (words was.part) (words was.list) c.reached-words.result false false c.loop-i-test.true
+          c.reached-words.ensures (sym unblocked ∙ c.is_blocked-blocked.ensures) (sym unlisted ∙ c.is_listed-listed.ensures)
           (passed scan was.i was.put _ c.if-i-scan.false)) ∙ was.invariant)
     ]
 
