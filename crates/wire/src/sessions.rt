@@ -150,7 +150,8 @@ pub fn is_formed(b: &[u8; SESSION_BYTES], len: usize) -> bool
     (phase <= 3) & ((complete <= 1) & (failed <= 1)) & !malformed & streams
 }
 
-// What a change writes, and no other word.
+// What a change writes, and no other word. Put into its callers, each of which knows which change it is.
+#[inline(always)]
 pub fn put_change(b: &mut [u8; SESSION_BYTES], c: Change)
     ensures { b.new ≡ written_by c b.old }
 {
